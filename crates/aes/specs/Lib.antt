@@ -1,0 +1,4 @@
+pub mod Blocks
+pub mod Field
+pub mod Tables
+pub mod Round

@@ -1,0 +1,33 @@
+// Counts of bytes and of bits, a run's ceiling, and the length block.
+pub mod counts;
+pub mod state;
+
+ghost use mathlib.Core.Path.{_≡_};
+ghost use mathlib.Core.List.{_++_};
+ghost use Prim.Native.Nat.{_*_};
+ghost use Rattle.counts.specs.Little.{little};
+use state::ByteCount;
+
+// The closing block: both lengths in bits.
+pub fn length_block(header: ByteCount, body: ByteCount) -> [u8; 16]
+    ensures { λ r. ⌜ r ≡ little 8 (8 * header .value) ++ little 8 (8 * body .value) ⌝ }
+{
+    let h = header.bits().to_le_bytes();
+    let b = body.bits().to_le_bytes();
+    let mut r = [0u8; 16];
+    r[0..8].copy_from_slice(&h);
+    r[8..16].copy_from_slice(&b);
+    r
+}
+
+pub fn le32(n: u32) -> [u8; 4]
+    ensures { λ r. ⌜ r ≡ little 4 n ⌝ }
+{
+    n.to_le_bytes()
+}
+
+pub fn le64(n: u64) -> [u8; 8]
+    ensures { λ r. ⌜ r ≡ little 8 n ⌝ }
+{
+    n.to_le_bytes()
+}

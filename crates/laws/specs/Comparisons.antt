@@ -1,0 +1,28 @@
+-- One allowance, and any list of comparisons with it: of any closed runs, with any received tags.
+use mathlib.Core.Path.{_≡_}
+use mathlib.Core.List.{List, [], _∷_}
+use Prim.Native.Nat.{ℕ, _+_}
+use Rattle.std.specs.declared.result.Result.{Result}
+use Rattle.std.specs.declared.result.Result.the-variants.{Ok, Err}
+use Rattle.refusals.specs.declared.Refusal.{Refusal}
+use Rattle.tags.specs.declared.state.Verdict.{Verdict}
+use Rattle.tags.specs.Tags.{Closed, compare-answers, compare-leaves}
+
+-- answers of comparisons, each with what the one before left of the allowance
+pub data Comparisons : ℕ → List (Result Verdict Refusal) → ℕ → Type 0 where
+  none : {n : ℕ} → Comparisons n [] n
+  more : {n k left : ℕ} {answers : List (Result Verdict Refusal)} (run : Closed) (received : List ℕ) (answer : Result Verdict Refusal) →
+      answer ≡ compare-answers run received n → k ≡ compare-leaves run received n → Comparisons k answers left → Comparisons n (answer ∷ answers) left
+
+-- how many were made: those not refused
+abbrev pub one : Result Verdict Refusal → ℕ
+one (Ok v) = 1
+one (Err e) = 0
+
+abbrev pub made : List (Result Verdict Refusal) → ℕ
+made [] = 0
+made (answer ∷ answers) = one answer + made answers
+
+-- comparisons made plus allowance left equals the first allowance
+abbrev pub Every-allowance : Type 0
+Every-allowance = (first left : ℕ) (answers : List (Result Verdict Refusal)) → Comparisons first answers left → made answers + left ≡ first

@@ -1,0 +1,5 @@
+pub mod Whole
+pub mod Comparisons
+pub mod Smac
+pub mod Replays
+pub mod OneShot

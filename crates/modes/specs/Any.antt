@@ -1,0 +1,27 @@
+-- The rule and the state of any of the four modes.
+use Rattle.mode.specs.Rules.{Rule, State}
+use Rattle.smac.specs.Smac.{smac1, smac34, smac12, smac1x}
+use Rattle.singles.specs.States.{state1, state34, state12}
+use Rattle.streams.specs.States.{state1x}
+use Rattle.modes.specs.declared.kinds.ModeKind.{ModeKind}
+use Rattle.modes.specs.declared.kinds.ModeKind.the-variants as kind
+use Rattle.modes.specs.declared.kinds.AnyMode.{AnyMode}
+use Rattle.modes.specs.declared.kinds.AnyMode.the-variants as any
+
+abbrev pub any-chosen : ModeKind → Rule
+any-chosen kind.Smac1 = smac1
+any-chosen kind.Smac34 = smac34
+any-chosen kind.Smac12 = smac12
+any-chosen (kind.Smac1xN c) = smac1x (c .n)
+
+abbrev pub any-rule : AnyMode → Rule
+any-rule (any.Smac1 m) = smac1
+any-rule (any.Smac34 m) = smac34
+any-rule (any.Smac12 m) = smac12
+any-rule (any.Smac1xN m) = smac1x (m .count)
+
+abbrev pub any-state : AnyMode → State
+any-state (any.Smac1 m) = state1 m
+any-state (any.Smac34 m) = state34 m
+any-state (any.Smac12 m) = state12 m
+any-state (any.Smac1xN m) = state1x m
