@@ -9,12 +9,12 @@ use Rattle.std.specs.declared.result.Result.the-variants.{Ok, Err}
 use Rattle.refusals.specs.declared.Refusal.{Refusal}
 use Rattle.refusals.specs.declared.Refusal.the-variants.{PastCeiling, TagLength}
 use Rattle.mode.specs.Rules.{Rule}
-use Rattle.message.specs.Framing.{message, message-tag}
+use Rattle.message.specs.Framing.{message, tag-of-blocks}
 use Rattle.tags.specs.Tags.{legal}
 
 -- the largest tag of a framed message, from key and IV
 abbrev pub full-tag : Rule → List ℕ → List ℕ → List ℕ → List ℕ → List ℕ
-full-tag r key iv header body = message-tag r (r .load key iv) (message r header body)
+full-tag r key iv header body = tag-of-blocks r (r .load key iv) (message r header body)
 
 -- bytes whose bits can be counted in 64 bits
 abbrev pub countable : List ℕ → Bool

@@ -11,7 +11,7 @@ use Rattle.refusals.specs.Numbers.{number}
 use Rattle.aes.specs.Blocks.{Bytes}
 use Rattle.rounds.specs.Reach.{Near}
 use Rattle.mode.specs.Rules.{Rule, Lawful, Good, at-first, absorbed, retraced}
-use Rattle.message.specs.Framing.{message, message-tag}
+use Rattle.message.specs.Framing.{message, tag-of-blocks}
 use Rattle.tags.specs.Tags.{Closed, legal, tag-answers, tag-leaves}
 use Rattle.run.specs.Calls.{Open, begun, Piece, turned, closed}
 
@@ -76,7 +76,7 @@ pub record Stands (r : Rule) (regs : List (List ℕ)) (ceiling : ℕ) (header bo
   pub back : retraced r (end .state) F ≡ at-first regs
   pub alone : (other : List (List ℕ)) → Good r (at-first other) → absorbed r (at-first other) F .regs ≡ end .state .regs → other ≡ regs
   -- a tag of any legal length is the first bytes of the tag that F leads to
-  pub tagged : (out : List ℕ) → legal r (length out) ≡ true → (tag-answers end out ≡ Ok tt) × (tag-leaves end out ≡ take (length out) (message-tag r regs F))
+  pub tagged : (out : List ℕ) → legal r (length out) ≡ true → (tag-answers end out ≡ Ok tt) × (tag-leaves end out ≡ take (length out) (tag-of-blocks r regs F))
 
 abbrev pub Every-run : Type 0
 Every-run = (r : Rule) → Lawful r → (regs : List (List ℕ)) (ceiling : ℕ) (header body : List Call) (end : Closed) →

@@ -1,1 +1,1 @@
-pub mod RegisterWords
+pub mod Registers

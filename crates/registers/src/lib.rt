@@ -1,13 +1,11 @@
 // The three registers as words, and the round on them. The first register is kept as it was before its permutation.
-pub mod sigmas;
-
 ghost use mathlib.Core.Path.{_≡_};
 ghost use Rattle.rounds.specs.Round.{round, unround};
 ghost use Rattle.rounds.specs.Mixing.{dummy as dummyOf};
 ghost use Rattle.rounds.specs.Mixing.{_⊞_, dummy-rounds as dummyRounds, mixed as mixedOf, keyed as keyedOf};
-ghost use Rattle.registers.specs.RegisterWords.{regs};
+ghost use Rattle.registers.specs.Registers.{regs};
 ghost use Rattle.words.specs.Words.{bytes};
-use crate::sigmas::Permutation;
+use sigma::Permutation;
 use words::Words;
 use words::f_of;
 use words::inv_f_of;

@@ -6,7 +6,7 @@ use Rattle.mode.specs.Rules.{Good}
 use Rattle.rounds.specs.Permutations.{sigma1, sigma34, sigma12}
 use Rattle.smac.specs.Smac.{smac1, smac34, smac12}
 use Rattle.smac.proofs.Singles.{fit-only}
-use Rattle.registers.specs.RegisterWords.{regs}
+use Rattle.registers.specs.Registers.{regs}
 use Rattle.registers.proofs.Sound.{regs-sound}
 use Rattle.singles.specs.declared.state.Smac1.{Smac1}
 use Rattle.singles.specs.declared.state.Smac34.{Smac34}

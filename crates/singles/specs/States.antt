@@ -2,7 +2,7 @@
 use Rattle.mode.specs.Rules.{State}
 use Rattle.smac.specs.Smac.{only}
 use Rattle.rounds.specs.Permutations.{sigma1, sigma34, sigma12}
-use Rattle.registers.specs.RegisterWords.{regs}
+use Rattle.registers.specs.Registers.{regs}
 use Rattle.singles.specs.declared.state.Smac1.{Smac1}
 use Rattle.singles.specs.declared.state.Smac34.{Smac34}
 use Rattle.singles.specs.declared.state.Smac12.{Smac12}

@@ -1,4 +1,4 @@
-// SMAC-1, SMAC-3/4 and SMAC-1/2.
+// SMAC-1, SMAC-3/4 and SMAC-1/2: one set of three registers.
 pub mod state;
 
 ghost use mathlib.Core.Path.{_≡_};
@@ -14,13 +14,13 @@ use registers::RegisterWords;
 use registers::dummy;
 use registers::keyed;
 use registers::mixed;
-use registers::sigmas::Half;
-use registers::sigmas::HalfPermutation;
-use registers::sigmas::Whole;
-use registers::sigmas::WholePermutation;
-use registers::sigmas::Permutation;
-use registers::sigmas::ThreeQuarters;
-use registers::sigmas::ThreeQuartersPermutation;
+use sigma::Half;
+use sigma::HalfPermutation;
+use sigma::Whole;
+use sigma::WholePermutation;
+use sigma::Permutation;
+use sigma::ThreeQuarters;
+use sigma::ThreeQuartersPermutation;
 use registers::step;
 use registers::unstep;
 use words::Words;

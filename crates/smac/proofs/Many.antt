@@ -15,12 +15,12 @@ use Rattle.aes.specs.Blocks.{Block}
 use Rattle.aes.proofs.Blocks.{is-bytes}
 use Rattle.aes.proofs.Sweep.{sweep}
 use Rattle.aes.proofs.Xor.{xor-block}
-use Rattle.rounds.specs.Round.{Registers, Sound, round, unround}
+use Rattle.rounds.specs.Round.{Registers, Sound, blank, round, unround}
 use Rattle.rounds.proofs.Round.{round-sound, unround-sound, unround-round, round-unround}
-use Rattle.rounds.specs.Streams.{Streams, blank, take as takes1, takes, leads}
-use Rattle.rounds.proofs.Streams.{streams-stand}
+use Rattle.rounds.proofs.Streams.{Streams, take as takes1, takes, leads, streams-reach}
 use Rattle.rounds.proofs.Permutations.{sigma1-undone}
 use Rattle.mode.specs.Rules.{Rule, State, Fit, Lawful, Key, after, absorbed}
+use Rattle.mode.proofs.States.{same-state}
 use Rattle.smac.specs.Smac.{threes, flat, patched, stream-start, joined, smac1x}
 use Rattle.rounds.specs.Mixing.{keyed, zero-registers, _⊞_, dummy-rounds}
 use Rattle.rounds.specs.Permutations.{sigma1}
@@ -75,9 +75,6 @@ module _ (n : ℕ) (some : 1 ≤ n) (most : n ≤ 16) where
   lifted m [] = refl
   lifted m (b ∷ bs) = ap (λ s. absorbed rule s bs) (stepped m b) ∙ lifted (takes1 sigma1 n m b) bs
 
-  same-state : {s t : State} → s .regs ≡ t .regs → s .place ≡ t .place → s ≡ t
-  same-state p q = λ i. record { regs = p i; place = q i }
-
   long : {rs : List (List ℕ)} → Fit rule rs → length (threes rs) ≡ n
   long {rs} f = length-threes n rs (f .many)
 
@@ -118,7 +115,7 @@ module _ (n : ℕ) (some : 1 ≤ n) (most : n ≤ 16) where
         let m : Streams = record { streams = threes (s .regs); turn = s .place } in
         let home : lift m ≡ s = same-state (flat-threes n (s .regs) (g .fit .many)) refl in
         let to : (bs : List (List ℕ)) → absorbed rule s bs .regs ≡ flat (leads sigma1 n m bs) = λ bs. ap (λ t. absorbed rule t bs .regs) (sym home) ∙ ap (λ t. t .regs) (lifted m bs) in
-        streams-stand sigma1 sigma1-undone n .reaches m xs ys (record { count = long (g .fit); within = g .within; sound = sounds (g .fit) }) kx ky near ne
+        streams-reach sigma1 sigma1-undone n m xs ys (record { count = long (g .fit); within = g .within; sound = sounds (g .fit) }) kx ky near ne
         (sym (threes-flat (leads sigma1 n m xs)) ∙ ap threes (sym (to xs) ∙ e ∙ to ys) ∙ threes-flat (leads sigma1 n m ys));
     tag-long = λ rs f.
         let j = joined-sound (threes rs) (sounds f) in

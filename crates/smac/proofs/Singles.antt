@@ -9,10 +9,11 @@ use Rattle.std.proofs.shelf.Lists.{length-take-le}
 use Rattle.aes.specs.Blocks.{Block}
 use Rattle.rounds.specs.Round.{Registers, Sound, Sigma, Undone}
 use Rattle.rounds.proofs.Round.{rounds-sound, unrounds-sound, unrounds-rounds, rounds-unrounds}
-use Rattle.rounds.specs.Paced.{Pace, Meaning, absorb, absorbs, led, smac-1, smac-3/4, smac-1/2}
-use Rattle.rounds.proofs.Paced.{gap, mode-reach, dummy-block, three-blocks, three-short}
+use Rattle.rounds.specs.Paced.{Pace, smac-1, smac-3/4, smac-1/2}
+use Rattle.rounds.proofs.Paced.{Meaning, absorb, absorbs, led, gap, mode-reach, dummy-block, three-blocks, three-short}
 use Rattle.rounds.proofs.Permutations.{sigma1-undone, sigma34-undone, sigma12-undone}
 use Rattle.mode.specs.Rules.{Rule, State, Fit, Lawful, absorbed}
+use Rattle.mode.proofs.States.{same-state}
 use Rattle.smac.specs.Smac.{three, only, paced, smac1, smac34, smac12}
 use Rattle.rounds.specs.Mixing.{keyed, mixed}
 use Rattle.rounds.specs.Permutations.{sigma1, sigma34, sigma12}
@@ -33,9 +34,6 @@ module _ (c : Sigma) (l : Undone c) (pace : Pace) (far long : ℕ) where
   unfolding absorb
   lifted m [] = refl
   lifted m (b ∷ bs) = lifted (absorb c pace m b) bs
-
-  same-state : {s t : State} → s .regs ≡ t .regs → s .place ≡ t .place → s ≡ t
-  same-state p q = λ i. record { regs = p i; place = q i }
 
   pub lawful : 0 < pace .cycle → long ≤ 32 → ((p : ℕ) → All Block (pace .own p)) → ((p : ℕ) → gap pace far p ≤ 3) → Lawful rule
   lawful some short blocks near = record {

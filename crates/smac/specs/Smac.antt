@@ -1,21 +1,19 @@
--- The four modes.
+-- The four modes, as their definitions have them.
 use mathlib.Core.Bool.{cond}
 use mathlib.Core.List.{List, [], _∷_, _++_, map}
 use Prim.Native.Nat.{ℕ, _+_, _-_, _*_}
 use lib.Dec.{eqb}
-use lib.ListN.{take, drop, getD, set, replicate}
+use lib.ListN.{take, getD, set}
 use Rattle.std.specs.Iters.{counting, folded}
 use Rattle.aes.specs.Blocks.{_⊕_}
-use Rattle.rounds.specs.Round.{Registers, Sigma, round, unround, rounds, unrounds}
-use Rattle.rounds.specs.Permutations.{pi-1, pi-1, pi-3/4, pi-3/4-back, pi-1/2, pi-1/2-back}
+use Rattle.rounds.specs.Round.{Registers, Sigma, blank, round, unround, rounds, unrounds}
+use Rattle.rounds.specs.Mixing.{_⊞_, zero-registers, dummy-rounds, mixed, keyed}
+use Rattle.rounds.specs.Permutations.{sigma1, sigma34, sigma12}
 use Rattle.rounds.specs.Paced.{Pace, smac-1, smac-3/4, smac-1/2}
-use Rattle.rounds.specs.Mixing.{dummy}
-use Rattle.rounds.specs.Streams.{blank}
 use Rattle.mode.specs.Rules.{Rule}
 
--- ---- registers
+-- ---- a mode's list of registers, three to a stream
 
--- a list of registers, in threes
 abbrev pub threes : List (List ℕ) → List Registers
 threes (a ∷ b ∷ c ∷ rest) = record { a1 = a; a2 = b; a3 = c } ∷ threes rest
 threes (a ∷ b ∷ []) = []
@@ -26,43 +24,17 @@ abbrev pub flat : List Registers → List (List ℕ)
 flat [] = []
 flat (s ∷ ss) = s .a1 ∷ s .a2 ∷ s .a3 ∷ flat ss
 
+-- the registers of the only stream
 abbrev pub three : List (List ℕ) → Registers
 three rs = getD (threes rs) 0 blank
 
 abbrev pub only : Registers → List (List ℕ)
 only s = flat (s ∷ [])
 
-infixl 60 _⊞_
--- exclusive or, register by register
-unfoldable pub _⊞_ : Registers → Registers → Registers
-s ⊞ t = record { a1 = s .a1 ⊕ t .a1; a2 = s .a2 ⊕ t .a2; a3 = s .a3 ⊕ t .a3 }
-
-abbrev pub zero-registers : Registers
-zero-registers = record { a1 = replicate 16 0; a2 = replicate 16 0; a3 = replicate 16 0 }
-
--- n dummy rounds
-unfoldable pub dummy-rounds : Sigma → ℕ → Registers → Registers
-dummy-rounds c n s = rounds c s (replicate n dummy)
-
--- key and IV in their registers
-abbrev pub keyed : List ℕ → List ℕ → Registers
-keyed key iv = record { a1 = drop 16 key; a2 = take 16 key; a3 = iv }
-
--- nine dummy rounds, and then the registers as they were before
-unfoldable pub mixed : Sigma → Registers → Registers
-mixed c s = dummy-rounds c 9 s ⊞ s
-
 -- ---- SMAC-1, SMAC-3/4 and SMAC-1/2
 
-abbrev pub sigma1 : Sigma
-sigma1 = record { there = pi-1; back = pi-1 }
-
-abbrev pub sigma34 : Sigma
-sigma34 = record { there = pi-3/4; back = pi-3/4-back }
-
-abbrev pub sigma12 : Sigma
-sigma12 = record { there = pi-1/2; back = pi-1/2-back }
-
+-- three registers: load is key and IV, mixed; a block does its round and then the dummy round that the pace has at its place;
+-- finish mixes, and the tag is the first bytes of A2 and then A3
 abbrev pub paced : Sigma → Pace → ℕ → ℕ → Rule
 paced c pace far long = record {
   count = 3;
@@ -87,10 +59,11 @@ smac12 = paced sigma12 smac-1/2 1 32
 
 -- ---- SMAC-1×n
 
--- stream k of n has its own IV
+-- the IV of stream k of n: byte 15 is 16 × (n − 1) + k
 abbrev pub patched : ℕ → ℕ → List ℕ → List ℕ
 patched n k iv = set iv 15 (16 * (n - 1) + k)
 
+-- stream k loaded: key and its IV, eight dummy rounds, and then the registers that stream 0 is loaded with are xored in
 unfoldable pub stream-start : ℕ → List ℕ → List ℕ → ℕ → Registers
 stream-start n key iv k = dummy-rounds sigma1 8 (keyed key (patched n k iv)) ⊞ keyed key (patched n 0 iv)
 
@@ -98,6 +71,8 @@ stream-start n key iv k = dummy-rounds sigma1 8 (keyed key (patched n k iv)) ⊞
 unfoldable pub joined : List Registers → Registers
 joined ss = folded (λ t s. t ⊞ dummy-rounds sigma1 6 s) zero-registers ss
 
+-- n streams: block i does a round in stream i mod n; fill brings the blocks to a multiple of n;
+-- finish keeps A2 of the joined streams, does eight dummy rounds, and the tag is the new A2 xor the kept one
 abbrev pub smac1x : ℕ → Rule
 smac1x n = record {
   count = 3 * n;

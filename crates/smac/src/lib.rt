@@ -1,15 +1,9 @@
-// The four modes are lawful, and give the tags that are known.
-ghost use Rattle.smac.specs.Known.{Known};
-ghost use Rattle.smac.specs.Laws.{All-lawful};
+// SMAC's four modes: what they are stands in specs/, and this is what holds of them.
+ghost use Rattle.smac.specs.Laws.{Modes-are-lawful};
 
-pub fn known_values() -> u8
-    ensures { λ _. ⌜ Known ⌝ }
-{
-    0
-}
-
-pub fn all_lawful() -> u8
-    ensures { λ _. ⌜ All-lawful ⌝ }
+// Each of the four modes keeps the laws of a mode, with its number of registers, its reach and its largest tag.
+pub fn modes_are_lawful() -> u8
+    ensures { λ _. ⌜ Modes-are-lawful ⌝ }
 {
     0
 }

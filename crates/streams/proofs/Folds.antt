@@ -13,7 +13,7 @@ use Rattle.std.proofs.shelf.Counted.{fill-by-all}
 use Rattle.aes.specs.Blocks.{moved}
 use Rattle.rounds.specs.Round.{Registers, Sound}
 use Rattle.rounds.specs.Permutations.{pi-1}
-use Rattle.rounds.specs.Streams.{blank}
+use Rattle.rounds.specs.Round.{blank}
 use Rattle.rounds.proofs.Permutations.{sigma1-undone}
 use Rattle.rounds.specs.Permutations.{sigma1}
 use Rattle.rounds.specs.Mixing.{zero-registers, _⊞_, dummy-rounds}
@@ -21,7 +21,7 @@ use Rattle.smac.specs.Smac.{joined, flat, threes, stream-start}
 use Rattle.smac.proofs.Shapes.{threes-flat}
 use Rattle.words.specs.Words.{bytes}
 use Rattle.registers.specs.declared.RegisterWords.{RegisterWords}
-use Rattle.registers.specs.RegisterWords.{regs}
+use Rattle.registers.specs.Registers.{regs}
 use Rattle.registers.proofs.Sound.{regs-sound}
 use Rattle.words.proofs.Zeros.{none}
 

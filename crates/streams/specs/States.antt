@@ -12,7 +12,7 @@ use Rattle.streams.specs.declared.state.StreamCount.{StreamCount}
 use Rattle.mode.specs.Rules.{State}
 use Rattle.smac.specs.Smac.{flat}
 use Rattle.rounds.specs.Permutations.{sigma1}
-use Rattle.registers.specs.RegisterWords.{regs}
+use Rattle.registers.specs.Registers.{regs}
 use Rattle.streams.specs.declared.state.Smac1xN.{Smac1xN}
 
 abbrev pub state1x : Smac1xN → State

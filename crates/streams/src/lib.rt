@@ -5,7 +5,7 @@ ghost use mathlib.Core.Path.{_≡_};
 ghost use mathlib.Core.List.{map};
 ghost use Prim.Native.Nat.{_<_, _≤_};
 ghost use Rattle.rounds.specs.Cycle.{next, prev};
-ghost use Rattle.registers.specs.RegisterWords.{regs};
+ghost use Rattle.registers.specs.Registers.{regs};
 ghost use Rattle.rounds.specs.Permutations.{sigma1};
 ghost use Rattle.smac.specs.Smac.{smac1x, patched as patchedOf, stream-start, joined as joinedOf};
 ghost use Rattle.streams.specs.States.{state1x, Counted};
@@ -16,8 +16,8 @@ use refusals::Refusal;
 use registers::RegisterWords;
 use registers::dummy_rounds;
 use registers::keyed;
-use registers::sigmas::Whole;
-use registers::sigmas::WholePermutation;
+use sigma::Whole;
+use sigma::WholePermutation;
 use registers::step;
 use registers::unstep;
 use registers::xor_registers;
@@ -32,7 +32,7 @@ impl StreamCount {
         ensures { λ r. ⌜ Counted n r ⌝ }
     {
         if n == 0 || n > 16 {
-            return Err(Refusal::Streams);
+            return Err(Refusal::ModeOrStreams);
         }
         Ok(StreamCount { n })
     }

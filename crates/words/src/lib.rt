@@ -58,10 +58,7 @@ pub fn xor(x: Words, y: Words) -> Words
 pub fn f_of(x: Words) -> Words
     ensures { λ r. ⌜ bytes r ≡ F (bytes x) ⌝ }
 {
-    let [x0, x1, x2, x3] = x.0.to_le_bytes();
-    let [x4, x5, x6, x7] = x.1.to_le_bytes();
-    let [x8, x9, x10, x11] = x.2.to_le_bytes();
-    let [x12, x13, x14, x15] = x.3.to_le_bytes();
+    let [x0, x1, x2, x3, x4, x5, x6, x7, x8, x9, x10, x11, x12, x13, x14, x15] = bytes_of(x);
     Words(
         column(x0, x5, x10, x15),
         column(x4, x9, x14, x3),

@@ -3,7 +3,7 @@ use Prim.Native.Nat.{ℕ}
 use native.Mathlib.Omega.{arith}
 use Rattle.rounds.specs.Round.{round}
 use Rattle.rounds.specs.Mixing.{dummy-rounds}
-use Rattle.registers.specs.RegisterWords.{regs}
+use Rattle.registers.specs.Registers.{regs}
 use Rattle.registers.proofs.Rounds.{dummy-rounds-none, dummy-rounds-more}
 use Rattle.registers.proofs.dummy_rounds.Needs as need
 

@@ -1,6 +1,6 @@
 use mathlib.Core.Path.{_≡_}
 use Rattle.rounds.specs.Mixing.{dummy-rounds}
-use Rattle.registers.specs.RegisterWords.{regs}
+use Rattle.registers.specs.Registers.{regs}
 use Rattle.registers.proofs.dummy_rounds.Given as given
 
 abbrev pub Inv-loop : given.InvT-loop

@@ -3,7 +3,7 @@ use lib.ListN.{take}
 use Rattle.std.specs.Iters.{folded}
 use Rattle.rounds.specs.Permutations.{sigma1}
 use Rattle.rounds.specs.Mixing.{zero-registers}
-use Rattle.registers.specs.RegisterWords.{regs}
+use Rattle.registers.specs.Registers.{regs}
 use Rattle.streams.proofs.Folds.{add}
 use Rattle.streams.proofs.joined.Given as given
 

@@ -7,7 +7,7 @@ use Rattle.rounds.specs.Mixing.{dummy-rounds}
 use Rattle.rounds.specs.Permutations.{sigma1}
 use Rattle.smac.proofs.Shapes.{threes-flat}
 use Rattle.words.proofs.Zeros.{bytes-none}
-use Rattle.registers.specs.RegisterWords.{regs}
+use Rattle.registers.specs.Registers.{regs}
 use Rattle.streams.proofs.Folds.{shown}
 use Rattle.streams.proofs.Smac1xNMode.finish.Needs as need
 

@@ -4,7 +4,7 @@ use native.Mathlib.Omega.{arith}
 use lib.ListN.{length, getD, set}
 use Rattle.mode.proofs.States.{same-state}
 use Rattle.rounds.specs.Round.{unround}
-use Rattle.rounds.specs.Streams.{blank}
+use Rattle.rounds.specs.Round.{blank}
 use Rattle.rounds.specs.Permutations.{sigma1}
 use Rattle.smac.specs.Smac.{flat, threes}
 use Rattle.streams.proofs.Folds.{changed, empty, shown}
