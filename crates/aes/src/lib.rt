@@ -81,7 +81,12 @@ fn inv_mix_columns(x: &[u8; 16]) -> [u8; 16]
     let mut out = [0; 16];
     for i in 0..16 {
         let top = i / 4 * 4;
-        out[i] = unmix_byte(x[i], x[top + (i + 1) % 4], x[top + (i + 2) % 4], x[top + (i + 3) % 4]);
+        out[i] = unmix_byte(
+            x[i],
+            x[top + (i + 1) % 4],
+            x[top + (i + 2) % 4],
+            x[top + (i + 3) % 4],
+        );
     }
     out
 }

@@ -1,9 +1,9 @@
 // The four modes in one type.
-use streams::state::StreamCount;
-use streams::state::Smac1xN;
 use singles::state::Smac1;
 use singles::state::Smac12;
 use singles::state::Smac34;
+use streams::state::Smac1xN;
+use streams::state::StreamCount;
 
 #[derive(Clone, Copy)]
 pub enum ModeKind {

@@ -4,8 +4,6 @@ pub mod kinds;
 ghost use Rattle.modes.specs.Any.{any-chosen, any-rule, any-state};
 use crate::kinds::AnyMode;
 use crate::kinds::ModeKind;
-use streams::Smac1xNMode;
-use streams::state::Smac1xN;
 use mode::Mode;
 use singles::Smac1Mode;
 use singles::Smac12Mode;
@@ -13,6 +11,8 @@ use singles::Smac34Mode;
 use singles::state::Smac1;
 use singles::state::Smac12;
 use singles::state::Smac34;
+use streams::Smac1xNMode;
+use streams::state::Smac1xN;
 
 pub impl Mode for AnyMode as AnyModeMode {
     type Setup = ModeKind;

@@ -5,7 +5,7 @@ ghost use Rattle.mode.specs.Rules.{at-first, loaded};
 ghost use Rattle.smac.specs.Smac.{smac1};
 ghost use Rattle.singles.specs.States.{state1};
 ghost use Rattle.keys.specs.Keys.{iv-of};
-ghost use Rattle.run.specs.Calls.{begun, part-of};
+ghost use Rattle.run.specs.Calls.{begun, header-of};
 use crate::state::HeaderRun;
 use crate::state::Part;
 use counts::state::Ceiling;
@@ -24,7 +24,7 @@ impl<M: Mode> HeaderRun<M> {
         ceiling: Ceiling,
         serial: DrawnSerial,
     ) -> HeaderRun<M>
-        ensures { λ r. ⌜ part-of rule state (r .part) ≡ begun (chosen setup (now (key .entry) .bytes)) (loaded (chosen setup (now (key .entry) .bytes)) (now (key .entry) .bytes) (iv-of (serial .office) (serial .number))) (ceiling .most .value) ⌝ }
+        ensures { λ r. ⌜ header-of rule state r ≡ begun (chosen setup (now (key .entry) .bytes)) (loaded (chosen setup (now (key .entry) .bytes)) (now (key .entry) .bytes) (iv-of (serial .office) (serial .number))) (ceiling .most .value) ⌝ }
     {
         let mode = M::load(setup, key.bytes(), &serial.iv());
         HeaderRun {
@@ -40,7 +40,7 @@ impl<M: Mode> HeaderRun<M> {
         office: u32,
         serial: u64,
     ) -> HeaderRun<M>
-        ensures { λ r. ⌜ part-of rule state (r .part) ≡ begun (chosen setup (now (key .entry) .bytes)) (loaded (chosen setup (now (key .entry) .bytes)) (now (key .entry) .bytes) (iv-of office serial)) (ceiling .most .value) ⌝ }
+        ensures { λ r. ⌜ header-of rule state r ≡ begun (chosen setup (now (key .entry) .bytes)) (loaded (chosen setup (now (key .entry) .bytes)) (now (key .entry) .bytes) (iv-of office serial)) (ceiling .most .value) ⌝ }
     {
         let mode = M::load(setup, key.bytes(), &iv(office, serial));
         HeaderRun {
@@ -57,7 +57,7 @@ impl HeaderRun<Smac1> {
         a3: &[u8; 16],
         ceiling: Ceiling,
     ) -> HeaderRun<Smac1>
-        ensures { λ r. ⌜ part-of (λ _. smac1) state1 (r .part) ≡ begun smac1 (at-first (now (a1 .entry) ∷ now (a2 .entry) ∷ now (a3 .entry) ∷ [])) (ceiling .most .value) ⌝ }
+        ensures { λ r. ⌜ header-of (λ _. smac1) state1 r ≡ begun smac1 (at-first (now (a1 .entry) ∷ now (a2 .entry) ∷ now (a3 .entry) ∷ [])) (ceiling .most .value) ⌝ }
     {
         HeaderRun {
             part: Part::<Smac1>::over(Smac1::from_registers(a1, a2, a3), ceiling),

@@ -1,6 +1,6 @@
 // The closed state: its tag, and comparisons with it.
 ghost use mathlib.Core.Path.{_≡_};
-ghost use Rattle.tags.specs.Tags.{rest, tag-answers, tag-leaves, compare-answers, compare-leaves};
+ghost use Rattle.tags.specs.Tags.{rest, Tagged, Compared};
 ghost use Rattle.run.specs.Calls.{closed-of, walked-back};
 use crate::state::ClosedRun;
 use mode::Mode;
@@ -11,17 +11,16 @@ use tags::state::Verdict;
 use tags::tag;
 
 impl<M: Mode> ClosedRun<M> {
-    // Fills the buffer, whose length is the tag length.
+    // Fills the buffer, whose length is the tag's length; refused, it keeps its bytes.
     pub fn tag(&self, out: &mut [u8]) -> Result<(), Refusal>
-        ensures answer { λ r. ⌜ r ≡ tag-answers (closed-of rule state (now (self .entry))) (now (out .entry)) ⌝ }
-        ensures out { λ _. ⌜ now (out .exit) ≡ tag-leaves (closed-of rule state (now (self .entry))) (now (out .entry)) ⌝ }
+        ensures { λ r. ⌜ Tagged (closed-of rule state (now (self .entry))) (now (out .entry)) r (now (out .exit)) ⌝ }
     {
         tag::write(&self.mode, out)
     }
 
+    // Pays one of the allowance and says whether the received bytes are the tag; refused, nothing is paid.
     pub fn compare(&self, received: &[u8], allowance: &mut Allowance) -> Result<Verdict, Refusal>
-        ensures answer { λ r. ⌜ r ≡ compare-answers (closed-of rule state (now (self .entry))) (now (received .entry)) (now (allowance .entry) .left) ⌝ }
-        ensures left { λ _. ⌜ now (allowance .exit) .left ≡ compare-leaves (closed-of rule state (now (self .entry))) (now (received .entry)) (now (allowance .entry) .left) ⌝ }
+        ensures { λ r. ⌜ Compared (closed-of rule state (now (self .entry))) (now (received .entry)) (now (allowance .entry) .left) r (now (allowance .exit) .left) ⌝ }
     {
         tag::compare(&self.mode, received, allowance)
     }

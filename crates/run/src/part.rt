@@ -5,8 +5,8 @@ ghost use Rattle.run.specs.Calls.{Piece, begun, part-of};
 use crate::state::Part;
 use counts::state::ByteCount;
 use counts::state::Ceiling;
+use message::feeding;
 use message::pending;
-use message::pieces;
 use mode::Mode;
 use refusals::Refusal;
 
@@ -23,13 +23,14 @@ impl<M: Mode> Part<M> {
         }
     }
 
+    // Takes a piece whole, or leaves everything as it was.
     pub(crate) fn take(&mut self, piece: &[u8]) -> Result<(), Refusal>
         ensures { λ r. ⌜ Piece (part-of rule state (now (self .entry))) (now (piece .entry)) r (part-of rule state (now (self .exit))) ⌝ }
     {
         let Some(count) = self.count.more(piece.len(), self.ceiling) else {
             return Err(Refusal::PastCeiling);
         };
-        pieces::piece(&mut self.mode, &mut self.pending, piece);
+        feeding::feed(&mut self.mode, &mut self.pending, piece);
         self.count = count;
         Ok(())
     }

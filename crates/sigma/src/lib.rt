@@ -31,7 +31,24 @@ pub impl Permutation for Whole as WholePermutation {
     ghost sigma = { sigma1 };
 
     fn f_of_moved(x: Words) -> Words {
-        let [x0, x1, x2, x3, x4, x5, x6, x7, x8, x9, x10, x11, x12, x13, x14, x15] = bytes_of(x);
+        let [
+            x0,
+            x1,
+            x2,
+            x3,
+            x4,
+            x5,
+            x6,
+            x7,
+            x8,
+            x9,
+            x10,
+            x11,
+            x12,
+            x13,
+            x14,
+            x15,
+        ] = bytes_of(x);
         Words(
             column(x0, x13, x6, x9),
             column(x4, x15, x2, x11),
@@ -41,8 +58,44 @@ pub impl Permutation for Whole as WholePermutation {
     }
 
     fn moved_back(x: Words) -> Words {
-        let [x0, x1, x2, x3, x4, x5, x6, x7, x8, x9, x10, x11, x12, x13, x14, x15] = bytes_of(x);
-        words_of(&[x0, x7, x14, x11, x4, x13, x10, x1, x8, x15, x6, x3, x12, x5, x2, x9])
+        let [
+            x0,
+            x1,
+            x2,
+            x3,
+            x4,
+            x5,
+            x6,
+            x7,
+            x8,
+            x9,
+            x10,
+            x11,
+            x12,
+            x13,
+            x14,
+            x15,
+        ] = bytes_of(x);
+        words_of(
+            &[
+                x0,
+                x7,
+                x14,
+                x11,
+                x4,
+                x13,
+                x10,
+                x1,
+                x8,
+                x15,
+                x6,
+                x3,
+                x12,
+                x5,
+                x2,
+                x9,
+            ],
+        )
     }
 }
 
@@ -53,7 +106,24 @@ pub impl Permutation for ThreeQuarters as ThreeQuartersPermutation {
     ghost sigma = { sigma34 };
 
     fn f_of_moved(x: Words) -> Words {
-        let [x0, x1, x2, x3, x4, x5, x6, x7, x8, x9, x10, x11, x12, x13, x14, x15] = bytes_of(x);
+        let [
+            x0,
+            x1,
+            x2,
+            x3,
+            x4,
+            x5,
+            x6,
+            x7,
+            x8,
+            x9,
+            x10,
+            x11,
+            x12,
+            x13,
+            x14,
+            x15,
+        ] = bytes_of(x);
         Words(
             column(x7, x13, x1, x9),
             column(x12, x6, x2, x10),
@@ -63,8 +133,44 @@ pub impl Permutation for ThreeQuarters as ThreeQuartersPermutation {
     }
 
     fn moved_back(x: Words) -> Words {
-        let [x0, x1, x2, x3, x4, x5, x6, x7, x8, x9, x10, x11, x12, x13, x14, x15] = bytes_of(x);
-        words_of(&[x7, x10, x14, x6, x8, x11, x9, x0, x12, x15, x3, x13, x4, x5, x1, x2])
+        let [
+            x0,
+            x1,
+            x2,
+            x3,
+            x4,
+            x5,
+            x6,
+            x7,
+            x8,
+            x9,
+            x10,
+            x11,
+            x12,
+            x13,
+            x14,
+            x15,
+        ] = bytes_of(x);
+        words_of(
+            &[
+                x7,
+                x10,
+                x14,
+                x6,
+                x8,
+                x11,
+                x9,
+                x0,
+                x12,
+                x15,
+                x3,
+                x13,
+                x4,
+                x5,
+                x1,
+                x2,
+            ],
+        )
     }
 }
 
@@ -75,7 +181,24 @@ pub impl Permutation for Half as HalfPermutation {
     ghost sigma = { sigma12 };
 
     fn f_of_moved(x: Words) -> Words {
-        let [x0, x1, x2, x3, x4, x5, x6, x7, x8, x9, x10, x11, x12, x13, x14, x15] = bytes_of(x);
+        let [
+            x0,
+            x1,
+            x2,
+            x3,
+            x4,
+            x5,
+            x6,
+            x7,
+            x8,
+            x9,
+            x10,
+            x11,
+            x12,
+            x13,
+            x14,
+            x15,
+        ] = bytes_of(x);
         Words(
             column(x0, x4, x8, x12),
             column(x6, x3, x10, x14),
@@ -85,7 +208,43 @@ pub impl Permutation for Half as HalfPermutation {
     }
 
     fn moved_back(x: Words) -> Words {
-        let [x0, x1, x2, x3, x4, x5, x6, x7, x8, x9, x10, x11, x12, x13, x14, x15] = bytes_of(x);
-        words_of(&[x0, x6, x13, x9, x5, x11, x4, x2, x10, x8, x14, x1, x15, x12, x3, x7])
+        let [
+            x0,
+            x1,
+            x2,
+            x3,
+            x4,
+            x5,
+            x6,
+            x7,
+            x8,
+            x9,
+            x10,
+            x11,
+            x12,
+            x13,
+            x14,
+            x15,
+        ] = bytes_of(x);
+        words_of(
+            &[
+                x0,
+                x6,
+                x13,
+                x9,
+                x5,
+                x11,
+                x4,
+                x2,
+                x10,
+                x8,
+                x14,
+                x1,
+                x15,
+                x12,
+                x3,
+                x7,
+            ],
+        )
     }
 }

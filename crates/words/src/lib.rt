@@ -28,7 +28,24 @@ pub fn bytes_of(x: Words) -> [u8; 16]
     let [x4, x5, x6, x7] = x.1.to_le_bytes();
     let [x8, x9, x10, x11] = x.2.to_le_bytes();
     let [x12, x13, x14, x15] = x.3.to_le_bytes();
-    [x0, x1, x2, x3, x4, x5, x6, x7, x8, x9, x10, x11, x12, x13, x14, x15]
+    [
+        x0,
+        x1,
+        x2,
+        x3,
+        x4,
+        x5,
+        x6,
+        x7,
+        x8,
+        x9,
+        x10,
+        x11,
+        x12,
+        x13,
+        x14,
+        x15,
+    ]
 }
 
 // Two blocks, one behind the other.
@@ -44,8 +61,38 @@ pub fn pair_of(x: Words, y: Words) -> [u8; 32]
     let [y8, y9, y10, y11] = y.2.to_le_bytes();
     let [y12, y13, y14, y15] = y.3.to_le_bytes();
     [
-        x0, x1, x2, x3, x4, x5, x6, x7, x8, x9, x10, x11, x12, x13, x14, x15,
-        y0, y1, y2, y3, y4, y5, y6, y7, y8, y9, y10, y11, y12, y13, y14, y15,
+        x0,
+        x1,
+        x2,
+        x3,
+        x4,
+        x5,
+        x6,
+        x7,
+        x8,
+        x9,
+        x10,
+        x11,
+        x12,
+        x13,
+        x14,
+        x15,
+        y0,
+        y1,
+        y2,
+        y3,
+        y4,
+        y5,
+        y6,
+        y7,
+        y8,
+        y9,
+        y10,
+        y11,
+        y12,
+        y13,
+        y14,
+        y15,
     ]
 }
 
@@ -58,7 +105,24 @@ pub fn xor(x: Words, y: Words) -> Words
 pub fn f_of(x: Words) -> Words
     ensures { λ r. ⌜ bytes r ≡ F (bytes x) ⌝ }
 {
-    let [x0, x1, x2, x3, x4, x5, x6, x7, x8, x9, x10, x11, x12, x13, x14, x15] = bytes_of(x);
+    let [
+        x0,
+        x1,
+        x2,
+        x3,
+        x4,
+        x5,
+        x6,
+        x7,
+        x8,
+        x9,
+        x10,
+        x11,
+        x12,
+        x13,
+        x14,
+        x15,
+    ] = bytes_of(x);
     Words(
         column(x0, x5, x10, x15),
         column(x4, x9, x14, x3),
