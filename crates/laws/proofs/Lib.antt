@@ -1,8 +1,6 @@
-pub mod Blocks
-pub mod Frames
+pub mod Ivs
+pub mod Pieces
 pub mod Leading
 pub mod Telling
 pub mod Counting
-pub mod Smac
-pub mod Handing
-pub mod Shot
+pub mod Drawing

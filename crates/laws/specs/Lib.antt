@@ -1,5 +1,3 @@
-pub mod Whole
+pub mod Runs
 pub mod Comparisons
-pub mod Smac
-pub mod Replays
-pub mod OneShot
+pub mod Draws

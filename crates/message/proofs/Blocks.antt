@@ -8,6 +8,7 @@ use lib.Dec.{eqb}
 use lib.ListN.{length, replicate, length-append, length-replicate}
 use borrow.Author.Tests.{eqb-true, eqb-false}
 use Rattle.std.specs.shelf.Lists.{All}
+use Rattle.std.proofs.shelf.Elements.{all-append}
 use Rattle.aes.specs.Blocks.{Bytes, Block}
 use Rattle.mode.specs.Rules.{Rule, place-after}
 use Rattle.counts.specs.Little.{little}
@@ -30,10 +31,6 @@ pub bytes-zeros : (n : ℕ) → Bytes (replicate n 0)
 bytes-zeros zero i = bytes-none i
 bytes-zeros (suc n) zero = omega arith
 bytes-zeros (suc n) (suc i) = bytes-zeros n i
-
-pub all-append : (xs ys : List (List ℕ)) → All Block xs → All Block ys → All Block (xs ++ ys)
-all-append [] ys hx hy = hy
-all-append (x ∷ xs) ys hx hy = (hx .0, all-append xs ys (hx .1) hy)
 
 flushed-blocks : (p : List ℕ) → length p < 16 → Bytes p → All Block (flushed p)
 flushed-blocks [] l h = tt
@@ -59,15 +56,15 @@ cut-blocks p (x ∷ bs) l hp hb =
     ] in
     cases refl
 
-little-bytes : (k x : ℕ) → Bytes (little k x)
+pub little-bytes : (k x : ℕ) → Bytes (little k x)
 little-bytes zero x i = bytes-none i
 little-bytes (suc k) x zero = omega arith
 little-bytes (suc k) x (suc i) = little-bytes k (x / 256) i
 
 pub framed-blocks : (h b : List ℕ) → Bytes h → Bytes b → All Block (framed h b)
 framed-blocks h b hh hb =
-    all-append (padded h) (padded b ++ length-block (length h) (length b) ∷ []) (cut-blocks [] h (omega arith) bytes-none hh)
-    (all-append (padded b) (length-block (length h) (length b) ∷ []) (cut-blocks [] b (omega arith) bytes-none hb)
+    all-append Block (padded h) (padded b ++ length-block (length h) (length b) ∷ []) (cut-blocks [] h (omega arith) bytes-none hh)
+    (all-append Block (padded b) (length-block (length h) (length b) ∷ []) (cut-blocks [] b (omega arith) bytes-none hb)
     (record { len = refl; bytes = bytes-append (little 8 (8 * length h)) (little 8 (8 * length b)) (little-bytes 8 (8 * length h)) (little-bytes 8 (8 * length b)) }, tt))
 
 zero-blocks : (n : ℕ) → All Block (replicate n zero-block)
@@ -77,4 +74,4 @@ zero-blocks (suc n) = (record { len = refl; bytes = bytes-zeros 16 }, zero-block
 pub message-blocks : (r : Rule) (h b : List ℕ) → Bytes h → Bytes b → All Block (message r h b)
 message-blocks r h b hh hb =
     let n = r .due (place-after r 0 (length (framed h b))) in
-    all-append (framed h b) (replicate n zero-block) (framed-blocks h b hh hb) (zero-blocks n)
+    all-append Block (framed h b) (replicate n zero-block) (framed-blocks h b hh hb) (zero-blocks n)

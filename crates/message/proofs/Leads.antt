@@ -9,10 +9,11 @@ use Rattle.std.specs.declared.result.Result.the-variants.{Ok, Err}
 use Rattle.refusals.specs.declared.Refusal.{Refusal}
 use Rattle.mode.specs.Rules.{Rule, State, at-first, loaded, after, absorbed, place-after}
 use Rattle.mode.proofs.States.{absorbed-append, absorbed-place}
-use Rattle.tags.specs.Tags.{Closed, Tagged}
+use Rattle.tags.specs.declared.state.Verdict.{Verdict}
+use Rattle.tags.specs.Tags.{Closed, Tagged, Compared}
 use Rattle.message.specs.Framing.{flushed, padded, length-block, framed, message, zero-block}
 use Rattle.message.specs.Feeding.{Fed, fed, fed-of, flush, filled}
-use Rattle.message.specs.Whole.{Countable, Message-tagged}
+use Rattle.message.specs.Whole.{Countable, Message-tagged, Message-compared}
 use Rattle.message.proofs.Feedings.{fed-cut}
 
 -- a part that was fed and flushed
@@ -63,3 +64,12 @@ whole-tagged r key iv h b end old new a e ch cb t =
     by : (a : Result (Unit {0}) Refusal) → Tagged (record { rule = r; state = absorbed r (loaded r key iv) (message r h b) }) old a new → Message-tagged r key iv h b old a new
     by (Ok x) t = (ch, cb, t .0, t .1)
     by (Err e) t = (t .2, inr (ch, cb, t .0, t .1))
+
+pub whole-compared : (r : Rule) (key iv h b : List ℕ) (end : Closed) (received : List ℕ) (n left : ℕ) (a : Result Verdict Refusal) →
+    end ≡ record { rule = r; state = absorbed r (loaded r key iv) (message r h b) } → Countable h → Countable b → Compared end received n a left → Message-compared r key iv h b received n a left
+whole-compared r key iv h b end received n left a e ch cb t =
+    by a (subst (λ (c : Closed). Compared c received n a left) e t)
+  where
+    by : (a : Result Verdict Refusal) → Compared (record { rule = r; state = absorbed r (loaded r key iv) (message r h b) }) received n a left → Message-compared r key iv h b received n a left
+    by (Ok v) t = (ch, cb, t .0, t .1, t .2)
+    by (Err e) t = (t .0, inr (ch, cb, t .1))
