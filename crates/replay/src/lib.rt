@@ -114,7 +114,25 @@ pub fn replay_both<M: Mode>(
         (map behind (now (now (one .entry) .header))) (map behind (now (now (one .entry) .body))) (map behind (now (now (two .entry) .header))) (map behind (now (now (two .entry) .body)))
         (both .0) (both .1)) ⌝ }
 {
-    let first = replay::<M>(heap, setup, key, ceiling, office, serial, one.header, one.body)?;
-    let second = replay::<M>(heap, setup, key, ceiling, office, serial, two.header, two.body)?;
+    let first = replay::<M>(
+        heap,
+        setup,
+        key,
+        ceiling,
+        office,
+        serial,
+        one.header,
+        one.body,
+    )?;
+    let second = replay::<M>(
+        heap,
+        setup,
+        key,
+        ceiling,
+        office,
+        serial,
+        two.header,
+        two.body,
+    )?;
     Ok((first, second))
 }

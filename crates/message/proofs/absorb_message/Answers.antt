@@ -6,8 +6,7 @@ returns g c =
     let key = c .args .key .now in
     let r = g .M·Mode .chosen (c .args .setup) key in
     let ch = c .in-Continue-header-count .ensures tt in
-    let cb = c .in-Continue-body-count .ensures tt in
-    (
+    let cb = c .in-Continue-body-count .ensures tt in (
       ch .0,
       cb .0,
       calls-lead r _ _ _ _ _ key (c .args .iv .now) (c .args .header .now) (c .args .body .now) _ _ _ _ _ _ _ _
