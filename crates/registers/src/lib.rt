@@ -3,10 +3,11 @@ ghost use mathlib.Core.Path.{_≡_};
 ghost use Rattle.rounds.specs.Round.{round, unround};
 ghost use Rattle.rounds.specs.Mixing.{dummy as dummyOf};
 ghost use Rattle.rounds.specs.Mixing.{_⊞_, dummy-rounds as dummyRounds, mixed as mixedOf, keyed as keyedOf};
-ghost use Rattle.registers.specs.Registers.{regs};
+ghost use Rattle.registers.specs.Registers.{regs, three-of};
 ghost use Rattle.words.specs.Words.{bytes};
 use sigma::Permutation;
 use words::Words;
+use words::bytes_of;
 use words::f_of;
 use words::inv_f_of;
 use words::words_of;
@@ -56,6 +57,13 @@ pub fn dummy_rounds<P: Permutation>(s: RegisterWords, n: u8) -> RegisterWords
         t = step::<P>(t, dummy());
     }
     t
+}
+
+// The bytes of A1, A2 and A3.
+pub fn bytes_of_registers<P: Permutation>(s: RegisterWords) -> [[u8; 16]; 3]
+    ensures { λ r. ⌜ r ≡ three-of (regs sigma s) ⌝ }
+{
+    [bytes_of(P::moved(s.p1)), bytes_of(s.a2), bytes_of(s.a3)]
 }
 
 // Exclusive or, register by register.

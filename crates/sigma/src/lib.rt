@@ -1,11 +1,18 @@
 // The permutations of a block's bytes that the modes use, on words.
+mod tables;
+
 ghost use mathlib.Core.Path.{_≡_};
-ghost use Rattle.aes.specs.Blocks.{moved};
+ghost use Rattle.aes.specs.Blocks.{Order, moved as movedBy};
 ghost use Rattle.aes.specs.Round.{F};
 ghost use Rattle.rounds.specs.Round.{Sigma, Undone};
 ghost use Rattle.rounds.specs.Permutations.{sigma1, sigma34, sigma12};
 ghost use Rattle.words.specs.Words.{bytes};
 use columns::column;
+use tables::PI_1;
+use tables::PI_12;
+use tables::PI_12_BACK;
+use tables::PI_34;
+use tables::PI_34_BACK;
 use words::Words;
 use words::bytes_of;
 use words::words_of;
@@ -15,13 +22,30 @@ pub trait Permutation {
 
     law undone: { Undone sigma };
 
-    // F after sigma
-    fn f_of_moved(x: Words) -> Words
-        ensures { λ r. ⌜ bytes r ≡ F (moved (sigma .there) (bytes x)) ⌝ };
+    // sigma
+    fn moved(x: Words) -> Words
+        ensures { λ r. ⌜ bytes r ≡ movedBy (sigma .there) (bytes x) ⌝ };
 
-    // what sigma puts into the order of `x`
+    // what undoes sigma
     fn moved_back(x: Words) -> Words
-        ensures { λ r. ⌜ bytes r ≡ moved (sigma .back) (bytes x) ⌝ };
+        ensures { λ r. ⌜ bytes r ≡ movedBy (sigma .back) (bytes x) ⌝ };
+
+    // F after sigma: sigma itself costs nothing, since F looks its bytes up at the permuted places
+    fn f_of_moved(x: Words) -> Words
+        ensures { λ r. ⌜ bytes r ≡ F (movedBy (sigma .there) (bytes x)) ⌝ };
+}
+
+// Byte `order[i]` at each place i.
+fn ordered(order: &[u8; 16], x: Words) -> Words
+    requires { ⌜ Order (now order) ⌝ }
+    ensures { λ r. ⌜ bytes r ≡ movedBy (now (order .entry)) (bytes x) ⌝ }
+{
+    let b = bytes_of(x);
+    let mut out = [0; 16];
+    for i in 0..16 {
+        out[i] = b[order[i] as usize];
+    }
+    words_of(&out)
 }
 
 // SMAC-1's and SMAC-1×n's.
@@ -30,71 +54,21 @@ pub struct Whole;
 pub impl Permutation for Whole as WholePermutation {
     ghost sigma = { sigma1 };
 
-    fn f_of_moved(x: Words) -> Words {
-        let [
-            x0,
-            x1,
-            x2,
-            x3,
-            x4,
-            x5,
-            x6,
-            x7,
-            x8,
-            x9,
-            x10,
-            x11,
-            x12,
-            x13,
-            x14,
-            x15,
-        ] = bytes_of(x);
-        Words(
-            column(x0, x13, x6, x9),
-            column(x4, x15, x2, x11),
-            column(x8, x5, x14, x1),
-            column(x12, x7, x10, x3),
-        )
+    fn moved(x: Words) -> Words {
+        ordered(&PI_1, x)
     }
 
     fn moved_back(x: Words) -> Words {
-        let [
-            x0,
-            x1,
-            x2,
-            x3,
-            x4,
-            x5,
-            x6,
-            x7,
-            x8,
-            x9,
-            x10,
-            x11,
-            x12,
-            x13,
-            x14,
-            x15,
-        ] = bytes_of(x);
-        words_of(
-            &[
-                x0,
-                x7,
-                x14,
-                x11,
-                x4,
-                x13,
-                x10,
-                x1,
-                x8,
-                x15,
-                x6,
-                x3,
-                x12,
-                x5,
-                x2,
-                x9,
-            ],
+        ordered(&PI_1, x)
+    }
+
+    fn f_of_moved(x: Words) -> Words {
+        let b = bytes_of(x);
+        Words(
+            column(b[0], b[13], b[6], b[9]),
+            column(b[4], b[15], b[2], b[11]),
+            column(b[8], b[5], b[14], b[1]),
+            column(b[12], b[7], b[10], b[3]),
         )
     }
 }
@@ -105,71 +79,21 @@ pub struct ThreeQuarters;
 pub impl Permutation for ThreeQuarters as ThreeQuartersPermutation {
     ghost sigma = { sigma34 };
 
-    fn f_of_moved(x: Words) -> Words {
-        let [
-            x0,
-            x1,
-            x2,
-            x3,
-            x4,
-            x5,
-            x6,
-            x7,
-            x8,
-            x9,
-            x10,
-            x11,
-            x12,
-            x13,
-            x14,
-            x15,
-        ] = bytes_of(x);
-        Words(
-            column(x7, x13, x1, x9),
-            column(x12, x6, x2, x10),
-            column(x4, x11, x15, x0),
-            column(x8, x14, x3, x5),
-        )
+    fn moved(x: Words) -> Words {
+        ordered(&PI_34, x)
     }
 
     fn moved_back(x: Words) -> Words {
-        let [
-            x0,
-            x1,
-            x2,
-            x3,
-            x4,
-            x5,
-            x6,
-            x7,
-            x8,
-            x9,
-            x10,
-            x11,
-            x12,
-            x13,
-            x14,
-            x15,
-        ] = bytes_of(x);
-        words_of(
-            &[
-                x7,
-                x10,
-                x14,
-                x6,
-                x8,
-                x11,
-                x9,
-                x0,
-                x12,
-                x15,
-                x3,
-                x13,
-                x4,
-                x5,
-                x1,
-                x2,
-            ],
+        ordered(&PI_34_BACK, x)
+    }
+
+    fn f_of_moved(x: Words) -> Words {
+        let b = bytes_of(x);
+        Words(
+            column(b[7], b[13], b[1], b[9]),
+            column(b[12], b[6], b[2], b[10]),
+            column(b[4], b[11], b[15], b[0]),
+            column(b[8], b[14], b[3], b[5]),
         )
     }
 }
@@ -180,71 +104,21 @@ pub struct Half;
 pub impl Permutation for Half as HalfPermutation {
     ghost sigma = { sigma12 };
 
-    fn f_of_moved(x: Words) -> Words {
-        let [
-            x0,
-            x1,
-            x2,
-            x3,
-            x4,
-            x5,
-            x6,
-            x7,
-            x8,
-            x9,
-            x10,
-            x11,
-            x12,
-            x13,
-            x14,
-            x15,
-        ] = bytes_of(x);
-        Words(
-            column(x0, x4, x8, x12),
-            column(x6, x3, x10, x14),
-            column(x9, x2, x7, x15),
-            column(x13, x11, x1, x5),
-        )
+    fn moved(x: Words) -> Words {
+        ordered(&PI_12, x)
     }
 
     fn moved_back(x: Words) -> Words {
-        let [
-            x0,
-            x1,
-            x2,
-            x3,
-            x4,
-            x5,
-            x6,
-            x7,
-            x8,
-            x9,
-            x10,
-            x11,
-            x12,
-            x13,
-            x14,
-            x15,
-        ] = bytes_of(x);
-        words_of(
-            &[
-                x0,
-                x6,
-                x13,
-                x9,
-                x5,
-                x11,
-                x4,
-                x2,
-                x10,
-                x8,
-                x14,
-                x1,
-                x15,
-                x12,
-                x3,
-                x7,
-            ],
+        ordered(&PI_12_BACK, x)
+    }
+
+    fn f_of_moved(x: Words) -> Words {
+        let b = bytes_of(x);
+        Words(
+            column(b[0], b[4], b[8], b[12]),
+            column(b[6], b[3], b[10], b[14]),
+            column(b[9], b[2], b[7], b[15]),
+            column(b[13], b[11], b[1], b[5]),
         )
     }
 }

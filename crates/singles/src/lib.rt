@@ -11,6 +11,7 @@ use crate::state::Smac12;
 use crate::state::Smac34;
 use mode::Mode;
 use registers::RegisterWords;
+use registers::bytes_of_registers;
 use registers::dummy;
 use registers::keyed;
 use registers::mixed;
@@ -39,6 +40,31 @@ impl Smac1 {
                 a3: words_of(a3),
             },
         }
+    }
+}
+
+impl Smac1 {
+    // The bytes of A1, A2 and A3.
+    pub fn registers(&self) -> [[u8; 16]; 3]
+        ensures { λ r. ⌜ r ≡ state1 (now (self .entry)) .regs ⌝ }
+    {
+        bytes_of_registers::<Whole>(self.regs)
+    }
+}
+
+impl Smac34 {
+    pub fn registers(&self) -> [[u8; 16]; 3]
+        ensures { λ r. ⌜ r ≡ state34 (now (self .entry)) .regs ⌝ }
+    {
+        bytes_of_registers::<ThreeQuarters>(self.regs)
+    }
+}
+
+impl Smac12 {
+    pub fn registers(&self) -> [[u8; 16]; 3]
+        ensures { λ r. ⌜ r ≡ state12 (now (self .entry)) .regs ⌝ }
+    {
+        bytes_of_registers::<Half>(self.regs)
     }
 }
 

@@ -10,6 +10,7 @@ use columns::column;
 #[derive(Clone, Copy)]
 pub struct Words(pub u32, pub u32, pub u32, pub u32);
 
+// A block as four words, the first byte of each the lowest.
 pub fn words_of(m: &[u8; 16]) -> Words
     ensures { λ r. ⌜ bytes r ≡ now (m .entry) ⌝ }
 {
@@ -21,116 +22,49 @@ pub fn words_of(m: &[u8; 16]) -> Words
     )
 }
 
+// The bytes of the four words, each the lowest first.
 pub fn bytes_of(x: Words) -> [u8; 16]
     ensures { λ r. ⌜ r ≡ bytes x ⌝ }
 {
-    let [x0, x1, x2, x3] = x.0.to_le_bytes();
-    let [x4, x5, x6, x7] = x.1.to_le_bytes();
-    let [x8, x9, x10, x11] = x.2.to_le_bytes();
-    let [x12, x13, x14, x15] = x.3.to_le_bytes();
-    [
-        x0,
-        x1,
-        x2,
-        x3,
-        x4,
-        x5,
-        x6,
-        x7,
-        x8,
-        x9,
-        x10,
-        x11,
-        x12,
-        x13,
-        x14,
-        x15,
-    ]
+    let mut out = [0; 16];
+    out[0..4].copy_from_slice(&x.0.to_le_bytes());
+    out[4..8].copy_from_slice(&x.1.to_le_bytes());
+    out[8..12].copy_from_slice(&x.2.to_le_bytes());
+    out[12..16].copy_from_slice(&x.3.to_le_bytes());
+    out
 }
 
 // Two blocks, one behind the other.
 pub fn pair_of(x: Words, y: Words) -> [u8; 32]
     ensures { λ r. ⌜ r ≡ bytes x ++ bytes y ⌝ }
 {
-    let [x0, x1, x2, x3] = x.0.to_le_bytes();
-    let [x4, x5, x6, x7] = x.1.to_le_bytes();
-    let [x8, x9, x10, x11] = x.2.to_le_bytes();
-    let [x12, x13, x14, x15] = x.3.to_le_bytes();
-    let [y0, y1, y2, y3] = y.0.to_le_bytes();
-    let [y4, y5, y6, y7] = y.1.to_le_bytes();
-    let [y8, y9, y10, y11] = y.2.to_le_bytes();
-    let [y12, y13, y14, y15] = y.3.to_le_bytes();
-    [
-        x0,
-        x1,
-        x2,
-        x3,
-        x4,
-        x5,
-        x6,
-        x7,
-        x8,
-        x9,
-        x10,
-        x11,
-        x12,
-        x13,
-        x14,
-        x15,
-        y0,
-        y1,
-        y2,
-        y3,
-        y4,
-        y5,
-        y6,
-        y7,
-        y8,
-        y9,
-        y10,
-        y11,
-        y12,
-        y13,
-        y14,
-        y15,
-    ]
+    let mut out = [0; 32];
+    out[0..16].copy_from_slice(&bytes_of(x));
+    out[16..32].copy_from_slice(&bytes_of(y));
+    out
 }
 
+// Exclusive or, word by word.
 pub fn xor(x: Words, y: Words) -> Words
     ensures { λ r. ⌜ bytes r ≡ bytes x ⊕ bytes y ⌝ }
 {
     Words(x.0 ^ y.0, x.1 ^ y.1, x.2 ^ y.2, x.3 ^ y.3)
 }
 
+// The AES round without its key.
 pub fn f_of(x: Words) -> Words
     ensures { λ r. ⌜ bytes r ≡ F (bytes x) ⌝ }
 {
-    let [
-        x0,
-        x1,
-        x2,
-        x3,
-        x4,
-        x5,
-        x6,
-        x7,
-        x8,
-        x9,
-        x10,
-        x11,
-        x12,
-        x13,
-        x14,
-        x15,
-    ] = bytes_of(x);
+    let b = bytes_of(x);
     Words(
-        column(x0, x5, x10, x15),
-        column(x4, x9, x14, x3),
-        column(x8, x13, x2, x7),
-        column(x12, x1, x6, x11),
+        column(b[0], b[5], b[10], b[15]),
+        column(b[4], b[9], b[14], b[3]),
+        column(b[8], b[13], b[2], b[7]),
+        column(b[12], b[1], b[6], b[11]),
     )
 }
 
+// The block that F makes `x` from.
 pub fn inv_f_of(x: Words) -> Words
     ensures { λ r. ⌜ bytes r ≡ Finv (bytes x) ⌝ }
 {
