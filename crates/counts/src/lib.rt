@@ -8,7 +8,7 @@ ghost use Prim.Native.Nat.{_*_};
 ghost use Rattle.counts.specs.Little.{little};
 use state::ByteCount;
 
-// The closing block: both lengths in bits.
+// The length block: both lengths in bits, eight little-endian bytes each.
 pub fn length_block(header: ByteCount, body: ByteCount) -> [u8; 16]
     ensures { λ r. ⌜ r ≡ little 8 (8 * header .value) ++ little 8 (8 * body .value) ⌝ }
 {
@@ -20,14 +20,16 @@ pub fn length_block(header: ByteCount, body: ByteCount) -> [u8; 16]
     r
 }
 
+// A number in four little-endian bytes.
 pub fn le32(n: u32) -> [u8; 4]
     ensures { λ r. ⌜ r ≡ little 4 n ⌝ }
 {
     n.to_le_bytes()
 }
 
-pub fn le64(n: u64) -> [u8; 8]
-    ensures { λ r. ⌜ r ≡ little 8 n ⌝ }
+// A number in eight little-endian bytes.
+pub fn le64(value: u64) -> [u8; 8]
+    ensures { λ r. ⌜ r ≡ little 8 value ⌝ }
 {
-    n.to_le_bytes()
+    value.to_le_bytes()
 }
