@@ -1,4 +1,10 @@
 -- The rule and the state of any of the four modes.
+use mathlib.Core.Path.{_≡_}
+use Prim.Native.Nat.{ℕ}
+use Rattle.std.specs.declared.result.Result.{Result}
+use Rattle.std.specs.declared.result.Result.the-variants.{Ok, Err}
+use Rattle.refusals.specs.declared.Refusal.{Refusal}
+use Rattle.refusals.specs.Numbers.{number}
 use Rattle.mode.specs.Rules.{Rule, State}
 use Rattle.smac.specs.Smac.{smac1, smac34, smac12, smac1x}
 use Rattle.singles.specs.States.{state1, state34, state12}
@@ -25,3 +31,24 @@ any-state (any.Smac1 m) = state1 m
 any-state (any.Smac34 m) = state34 m
 any-state (any.Smac12 m) = state12 m
 any-state (any.Smac1xN m) = state1x m
+
+-- a mode's code and its number of streams, 0 where it has none
+abbrev pub code : ModeKind → ℕ
+code kind.Smac1 = 1
+code kind.Smac34 = 2
+code kind.Smac12 = 3
+code (kind.Smac1xN c) = 4
+
+abbrev pub stream-count : ModeKind → ℕ
+stream-count kind.Smac1 = 0
+stream-count kind.Smac34 = 0
+stream-count kind.Smac12 = 0
+stream-count (kind.Smac1xN c) = c .n
+
+abbrev pub Coded : ℕ → ℕ → ModeKind → Type 0
+Coded c n k = (code k ≡ c) × (stream-count k ≡ n)
+
+-- choosing a mode by code and streams: refused with 5 if no mode has them
+abbrev pub Kind-chosen : ℕ → ℕ → Result ModeKind Refusal → Type 0
+Kind-chosen c n (Ok k) = Coded c n k
+Kind-chosen c n (Err e) = ((k : ModeKind) → Coded c n k → ⊥) × (number e ≡ 5)

@@ -1,10 +1,11 @@
 // The four modes in one type, which is a mode too.
 pub mod kinds;
 
-ghost use Rattle.modes.specs.Any.{any-chosen, any-rule, any-state};
+ghost use Rattle.modes.specs.Any.{any-chosen, any-rule, any-state, Kind-chosen};
 use crate::kinds::AnyMode;
 use crate::kinds::ModeKind;
 use mode::Mode;
+use refusals::Refusal;
 use singles::Smac1Mode;
 use singles::Smac12Mode;
 use singles::Smac34Mode;
@@ -13,6 +14,22 @@ use singles::state::Smac12;
 use singles::state::Smac34;
 use streams::Smac1xNMode;
 use streams::state::Smac1xN;
+use streams::state::StreamCount;
+
+impl ModeKind {
+    // The mode of a code: 1, 2 and 3 with no streams, 4 with 1 to 16.
+    pub fn of(code: u8, streams: u8) -> Result<ModeKind, Refusal>
+        ensures { λ r. ⌜ Kind-chosen code streams r ⌝ }
+    {
+        match (code, streams) {
+            (1, 0) => Ok(ModeKind::Smac1),
+            (2, 0) => Ok(ModeKind::Smac34),
+            (3, 0) => Ok(ModeKind::Smac12),
+            (4, _) => Ok(ModeKind::Smac1xN(StreamCount::new(streams)?)),
+            _ => Err(Refusal::ModeOrStreams),
+        }
+    }
+}
 
 pub impl Mode for AnyMode as AnyModeMode {
     type Setup = ModeKind;
