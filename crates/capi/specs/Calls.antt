@@ -7,7 +7,7 @@ use lib.ListN.{length, replicate}
 use Rattle.std.specs.declared.result.Result.{Result}
 use Rattle.std.specs.declared.result.Result.the-variants.{Ok, Err}
 use Rattle.refusals.specs.declared.Refusal.{Refusal}
-use Rattle.refusals.specs.Numbers.{number}
+use Rattle.refusals.specs.Numbers.{number, Refused-with}
 use Rattle.keys.specs.Keys.{iv-of}
 use Rattle.message.specs.Whole.{Message-tagged}
 use Rattle.modes.specs.declared.kinds.ModeKind.{ModeKind}
@@ -16,11 +16,6 @@ use Rattle.modes.specs.Any.{any-chosen, Coded}
 -- a key as a slot holds it: zeros behind the bytes that are given
 abbrev pub full-key : List ℕ → List ℕ
 full-key key = key ++ replicate (32 - length key) 0
-
--- an answer that is refused with a number
-abbrev pub Refused-with : ℕ → Result (Unit {0}) Refusal → Type 0
-Refused-with n (Ok _) = ⊥
-Refused-with n (Err e) = number e ≡ n
 
 -- tagging a message: refused with 5 if there is no such mode, then with 1 for the key's length, then as tagging a message is
 abbrev pub C-tagged : ℕ → ℕ → List ℕ → ℕ → ℕ → List ℕ → List ℕ → List ℕ → Result (Unit {0}) Refusal → List ℕ → Type 0

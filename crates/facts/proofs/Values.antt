@@ -8,6 +8,7 @@ use Rattle.std.specs.declared.result.Result.{Result}
 use Rattle.std.specs.declared.result.Result.the-variants.{Ok, Err}
 use Rattle.std.proofs.shelf.Lists.{getD-set-same}
 use Rattle.refusals.specs.declared.Refusal.{Refusal}
+use Rattle.refusals.specs.Numbers.{Accepted, Refused-with}
 use Rattle.aes.specs.Blocks.{block, _⊕_, moved}
 use Rattle.aes.specs.Field.{xtime}
 use Rattle.aes.specs.Round.{sub, times3, mix, SubBytes, ShiftRows, MixColumns, F}
@@ -17,7 +18,7 @@ use Rattle.rounds.specs.Permutations.{pi-1, pi-3/4, pi-1/2}
 use Rattle.smac.specs.Smac.{stream-start, joined, patched}
 use Rattle.counts.specs.declared.state.Ceiling.{Ceiling}
 use Rattle.counts.specs.Ceilings.{Ceiling-made}
-use Rattle.facts.specs.Known.{Accepted, Refused-with, Known-facts}
+use Rattle.facts.specs.Known.{Known-facts}
 
 highest : (r : Result Ceiling Refusal) → Ceiling-made (2 ^ 61 - 1) r → Accepted r
 highest (Ok c) h = tt

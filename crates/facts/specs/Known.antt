@@ -5,9 +5,8 @@ use Prim.Native.Nat.{ℕ, zero, suc, _-_, _*_, _/_, _%_, _^_}
 use lib.ListN.{getD, length, replicate}
 use Rattle.std.specs.Iters.{counting}
 use Rattle.std.specs.declared.result.Result.{Result}
-use Rattle.std.specs.declared.result.Result.the-variants.{Ok, Err}
 use Rattle.refusals.specs.declared.Refusal.{Refusal}
-use Rattle.refusals.specs.Numbers.{number}
+use Rattle.refusals.specs.Numbers.{Accepted, Refused-with}
 use Rattle.aes.specs.Round.{sub}
 use Rattle.rounds.specs.Mixing.{zero-registers, dummy-rounds}
 use Rattle.rounds.specs.Permutations.{sigma34}
@@ -22,15 +21,6 @@ use Rattle.message.specs.Framing.{framed, zero-block, tag-of}
 abbrev pub big : ℕ → ℕ → List ℕ
 big zero x = []
 big (suc n) x = x / 256 ^ n % 256 ∷ big n x
-
--- an answer that is not refused, and one that is refused with a number
-abbrev pub Accepted : {A : Type 0} → Result A Refusal → Type 0
-Accepted (Ok _) = Unit {0}
-Accepted (Err _) = ⊥
-
-abbrev pub Refused-with : {A : Type 0} → ℕ → Result A Refusal → Type 0
-Refused-with n (Ok _) = ⊥
-Refused-with n (Err e) = number e ≡ n
 
 pub record Known-facts : Type 0 where
   -- the first published vector of SMAC-1

@@ -75,6 +75,18 @@ impl SerialBook {
 }
 
 impl DrawnSerial {
+    pub fn office(&self) -> u32
+        ensures { λ r. ⌜ r ≡ now (self .entry) .office ⌝ }
+    {
+        self.office
+    }
+
+    pub fn number(&self) -> u64
+        ensures { λ r. ⌜ r ≡ now (self .entry) .number ⌝ }
+    {
+        self.number
+    }
+
     // The IV of the run that it begins.
     pub fn iv(self) -> [u8; 16]
         ensures { λ r. ⌜ r ≡ iv-of (self .office) (self .number) ⌝ }

@@ -1,0 +1,5 @@
+// Tests of sealed sections.
+#[cfg(test)]
+mod tables;
+#[cfg(test)]
+mod tests;
