@@ -3,12 +3,11 @@ ghost use mathlib.Core.Path.{_≡_};
 ghost use Rattle.capi.specs.Calls.{C-tagged, number-of as numberOf, Answers-number};
 use keys::state::KeySlot;
 use keys::state::SerialBook;
-
 use modes::kinds::ModeKind;
 use oneshot::tag;
 use refusals::Refusal;
-use singles::Smac12Mode;
 use singles::Smac1Mode;
+use singles::Smac12Mode;
 use singles::Smac34Mode;
 use singles::state::Smac1;
 use singles::state::Smac12;

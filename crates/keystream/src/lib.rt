@@ -40,7 +40,8 @@ pub impl Keystream for CounterMode as CounterModeKeystream {
     ghost words = { counter-words };
 
     fn word(&self, place: u32) -> [u8; 16] {
-        self.expanded.encrypt(&counter_block(self.office, self.serial, place))
+        self.expanded
+            .encrypt(&counter_block(self.office, self.serial, place))
     }
 }
 
@@ -51,5 +52,22 @@ fn counter_block(office: u32, serial: u64, place: u32) -> [u8; 16]
     let [o0, o1, o2, o3] = le32(office);
     let [s0, s1, s2, s3, s4, s5, s6, s7] = le64(serial);
     let [p0, p1, p2, p3] = le32(place);
-    [o0, o1, o2, o3, s0, s1, s2, s3, s4, s5, s6, s7, p3, p2, p1, p0]
+    [
+        o0,
+        o1,
+        o2,
+        o3,
+        s0,
+        s1,
+        s2,
+        s3,
+        s4,
+        s5,
+        s6,
+        s7,
+        p3,
+        p2,
+        p1,
+        p0,
+    ]
 }

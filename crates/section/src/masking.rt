@@ -18,10 +18,18 @@ pub(crate) fn mask<K: Keystream>(keys: &K, input: &[u8], out: &mut [u8])
     for j in 0..whole {
         let start = 16 * j;
         let end = start + 16;
-        xor_into(&keys.word(FIRST + j as u32), &input[start..end], &mut out[start..end]);
+        xor_into(
+            &keys.word(FIRST + j as u32),
+            &input[start..end],
+            &mut out[start..end],
+        );
     }
     let start = 16 * whole;
-    xor_into(&keys.word(FIRST + whole as u32), &input[start..], &mut out[start..]);
+    xor_into(
+        &keys.word(FIRST + whole as u32),
+        &input[start..],
+        &mut out[start..],
+    );
 }
 
 // Writes the input xored with the first bytes of a word.

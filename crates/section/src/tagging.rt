@@ -7,7 +7,6 @@ ghost use Rattle.singles.specs.States.{state1};
 ghost use Rattle.run.specs.Calls.{closed-of};
 ghost use Rattle.section.specs.Sections.{closing-state, section-tag};
 ghost use Rattle.section.specs.Calls.{Verified};
-
 use counts::state::Ceiling;
 use keystream::Keystream;
 use refusals::Refusal;

@@ -56,8 +56,13 @@ module _ (z : ℕ → List ℕ) (blocks : Of-blocks z) where
     where
       long : length written ≡ length body + 16
       long =
-          omega (arith, ap length (w .sealed .2), length-append (masked z body) (section-tag z header (masked z body)), length-masked z body,
-          tag-long z blocks header (masked z body) (w .header-bytes) (masked-bytes body (w .body-bytes)))
+          omega (
+            arith,
+            ap length (w .sealed .2),
+            length-append (masked z body) (section-tag z header (masked z body)),
+            length-masked z body,
+            tag-long z blocks header (masked z body) (w .header-bytes) (masked-bytes body (w .body-bytes)),
+          )
 
       by : (answer : Result (Unit {0}) Refusal) → Opened z header written room answer out → (answer ≡ Ok tt) × (out ≡ body)
       by (Ok tt) o =

@@ -27,7 +27,13 @@ fn vectors(rt: LibcRuntime) -> Result<(), Fail> {
     for v in &VECTORS {
         let key = slot(v.key)?;
         let mut sealed = vec![in heap; 0u8; v.section.len()]?;
-        seal(&key, drawn(v.office, v.serial)?, v.header, v.body, &mut sealed)?;
+        seal(
+            &key,
+            drawn(v.office, v.serial)?,
+            v.header,
+            v.body,
+            &mut sealed,
+        )?;
         check(sealed.as_slice() == v.section)?;
         let mut opened = vec![in heap; 0u8; v.body.len()]?;
         open(&key, v.office, v.serial, v.header, v.section, &mut opened)?;

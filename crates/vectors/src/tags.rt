@@ -26,7 +26,13 @@ struct Given {
     body: Vec<u8>,
 }
 
-fn read_given(heap: Global, key: &str, iv: &str, header: &str, body: &str) -> Result<Given, AnyError> {
+fn read_given(
+    heap: Global,
+    key: &str,
+    iv: &str,
+    header: &str,
+    body: &str,
+) -> Result<Given, AnyError> {
     Ok(Given {
         key: array::<32>(heap, key)?,
         iv: array::<16>(heap, iv)?,

@@ -20,7 +20,9 @@ returns g c =
     let rest = drop (n - 0) (c .args .out .now) in
     let long : length front ≡ n = ap length (c .mask .ensures) ∙ length-masked z body in
     let none : n - 0 ≡ n = omega arith in
-    let cut : take (n - 0) (front ++ rest) ≡ front = ap (λ (k : ℕ). take k (front ++ rest)) none ∙ take-at front rest n long in
-    (search needs, search needs,
-    behind-front front rest (c .copy-from-slice .last .self) n (length (front ++ rest) - n) long (omega arith)
-    ∙ ap₂ _++_ (c .mask .ensures) (c .copy-from-slice .ensures .after ∙ c .section-tag-tag .ensures ∙ ap (section-tag z header) (cut ∙ c .mask .ensures)))
+    let cut : take (n - 0) (front ++ rest) ≡ front = ap (λ (k : ℕ). take k (front ++ rest)) none ∙ take-at front rest n long in (
+      search needs,
+      search needs,
+      behind-front front rest (c .copy-from-slice .last .self) n (length (front ++ rest) - n) long (omega arith)
+          ∙ ap₂ _++_ (c .mask .ensures) (c .copy-from-slice .ensures .after ∙ c .section-tag-tag .ensures ∙ ap (section-tag z header) (cut ∙ c .mask .ensures)),
+    )

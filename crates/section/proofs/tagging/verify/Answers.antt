@@ -22,6 +22,8 @@ returns-in-Differs g c =
     let z = g .K·Keystream .words (c .args .keys .now) in
     let header = c .args .header .now in
     let ciphertext = c .args .ciphertext .now in
-    let received = c .args .received .now in
-    (subst (λ (v : Verdict). Says v (received ≡ section-tag z header ciphertext)) (c .in-Differs .is)
-    (tag-judged z header ciphertext _ received (c .new-allowance .result .left) (c .compare .last .allowance .left) (c .in-Ok .verdict) (c .closing .ensures) (c .pre .1 .1) (c .in-Ok .ensures tt)), refl)
+    let received = c .args .received .now in (
+      subst (λ (v : Verdict). Says v (received ≡ section-tag z header ciphertext)) (c .in-Differs .is)
+          (tag-judged z header ciphertext _ received (c .new-allowance .result .left) (c .compare .last .allowance .left) (c .in-Ok .verdict) (c .closing .ensures) (c .pre .1 .1) (c .in-Ok .ensures tt)),
+      refl,
+    )
