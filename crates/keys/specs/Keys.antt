@@ -1,4 +1,4 @@
--- Key places, serial books, and the IV of a run.
+-- Key slots, serial books, and the IV of a run.
 use mathlib.Core.Path.{_≡_}
 use mathlib.Core.Bool.{cond}
 use mathlib.Core.Logic.{_⊎_}

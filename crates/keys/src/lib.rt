@@ -1,4 +1,4 @@
-// Key places, serial books and drawn serials, and the IV of a run.
+// Key slots, serial books and drawn serials, and the IV of a run.
 pub mod state;
 
 ghost use mathlib.Core.Path.{_≡_};

@@ -1,4 +1,4 @@
-// Key places, serial books and drawn serials.
+// Key slots, serial books and drawn serials.
 ghost use mathlib.Core.Path.{_≡_};
 ghost use lib.ListN.{length};
 
