@@ -105,7 +105,7 @@ same-blocks? (x ∷ xs) (y ∷ ys) =
       | inr e ↦ inr (λ w. e (ap (λ l. getD l 0 []) w))
     ]
 
--- length-block blocks tell the lengths
+-- length blocks tell the lengths
 length-block-same : (a b c d : ℕ) → a < 2 ^ 61 → b < 2 ^ 61 → c < 2 ^ 61 → d < 2 ^ 61 → length-block a b ≡ length-block c d → (a ≡ c) × (b ≡ d)
 length-block-same a b c d ha hb hc hd e =
     let r = front-same (little 8 (8 * a)) (little 8 (8 * c)) (little 8 (8 * b)) (little 8 (8 * d)) refl e in

@@ -24,7 +24,7 @@ abbrev pub fed : Rule → Fed → List ℕ → Fed
 fed r s [] = s
 fed r s (b ∷ bs) = fed r (fed-byte r (s .state) (s .waiting) b) bs
 
--- the end of a part: what waits is filled up with zero-block, and absorbed
+-- the end of a part: what waits is filled up with zeros, and absorbed
 abbrev pub flush : Rule → Fed → State
 flush r s = absorbed r (s .state) (flushed (s .waiting))
 

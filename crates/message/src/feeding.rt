@@ -44,7 +44,7 @@ pub fn feed<M: Mode>(mode: &mut M, pending: &mut Pending, bytes: &[u8])
     aligned(mode, pending, back);
 }
 
-// The end of a part: pending bytes are filled up with zero-block, and absorbed.
+// The end of a part: pending bytes are filled up with zeros, and absorbed.
 pub fn flush<M: Mode>(mode: &mut M, pending: Pending)
     ensures rule { λ _. ⌜ rule (now (mode .exit)) ≡ rule (now (mode .entry)) ⌝ }
     ensures state { λ _. ⌜ state (now (mode .exit)) ≡ absorbed (rule (now (mode .entry))) (state (now (mode .entry))) (flushed (held pending)) ⌝ }

@@ -39,7 +39,7 @@ pub(crate) fn complete(pending: &mut Pending, more: &[u8]) -> [u8; 16]
     block
 }
 
-// The pending bytes, filled up with zero-block.
+// The pending bytes, filled up with zeros.
 pub(crate) fn padded(pending: Pending) -> [u8; 16]
     ensures { λ r. ⌜ r ≡ held pending ++ replicate (16 - pending .len) 0 ⌝ }
 {

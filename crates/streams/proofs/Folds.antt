@@ -59,7 +59,7 @@ pub shown-sound : (ss : List RegisterWords) → All Sound (map (regs sigma1) ss)
 shown-sound [] = tt
 shown-sound (s ∷ ss) = (regs-sound sigma1 sigma1-undone s, shown-sound ss)
 
--- pi-1 stream changed
+-- one stream changed
 pub changed : (n : ℕ) (ss : List RegisterWords) (p : ℕ) (r d : RegisterWords) (f : Registers → Registers) → p < n → n ≤ length ss → regs sigma1 r ≡ f (regs sigma1 (getD ss p d))
     → flat (shown n (set ss p r)) ≡ flat (set (threes (flat (shown n ss))) p (f (getD (threes (flat (shown n ss))) p blank)))
 changed n ss p r d f h long e =
