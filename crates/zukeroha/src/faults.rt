@@ -1,6 +1,8 @@
 // What can go wrong, and the line that says so.
 use crate::hexadecimal::BadKey;
 use crate::hexadecimal::BadKeyDisplay;
+use crate::sections::BadSection;
+use crate::sections::BadSectionDisplay;
 use crate::usage::Usage;
 use crate::usage::UsageDisplay;
 use refusals::Refusal;
@@ -15,6 +17,7 @@ pub enum Fault {
     Usage(Usage),
     File { name: String, cause: io::Error },
     Key { name: String, cause: BadKey },
+    Section { name: String, cause: BadSection },
     Refused(Refusal),
     Output(io::Error),
     Memory,
@@ -33,6 +36,14 @@ impl Fault {
     pub fn key(heap: Global, name: &str, cause: BadKey) -> Fault {
         match String::from_str(heap, name) {
             Ok(name) => Fault::Key { name, cause },
+            Err(_) => Fault::Memory,
+        }
+    }
+
+    // The file of that name cannot be sealed, or opened.
+    pub fn section(heap: Global, name: &str, cause: BadSection) -> Fault {
+        match String::from_str(heap, name) {
+            Ok(name) => Fault::Section { name, cause },
             Err(_) => Fault::Memory,
         }
     }
@@ -69,6 +80,7 @@ pub impl fmt::Display for Fault as FaultDisplay {
             Fault::Usage(cause) => write!(f, "{cause}"),
             Fault::File { name, cause } => write!(f, "{name}: {cause}"),
             Fault::Key { name, cause } => write!(f, "key file {name}: {cause}"),
+            Fault::Section { name, cause } => write!(f, "{name}: {cause}"),
             Fault::Refused(cause) => write!(f, "{cause}"),
             Fault::Output(cause) => write!(f, "standard output: {cause}"),
             Fault::Memory => f.write_str("out of memory"),

@@ -1,4 +1,4 @@
-// Tags payroll files with SMAC, and checks such tags.
+// Tags payroll files with SMAC, checks such tags, and seals and opens sections.
 mod arguments;
 mod choice;
 mod faults;
@@ -6,6 +6,7 @@ mod help;
 mod hexadecimal;
 mod options;
 mod progress;
+mod sections;
 mod source;
 mod usage;
 mod work;
@@ -28,6 +29,10 @@ fn run(rt: &LibcRuntime) -> Result<Outcome, Fault> {
             Ok(Outcome::Done)
         }
         Command::Work(job) => work::perform(rt, &job),
+        Command::Section(job) => {
+            sections::perform(rt, &job)?;
+            Ok(Outcome::Done)
+        }
     }
 }
 

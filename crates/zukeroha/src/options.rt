@@ -8,6 +8,7 @@ use std::fmt;
 pub enum Command {
     Help,
     Work(Job),
+    Section(SectionJob),
 }
 
 // What to do with a file, all of it known.
@@ -29,6 +30,24 @@ pub enum Purpose {
     Tag(u64),
     // these bytes are compared with the tag
     Check(Vec<u8>),
+}
+
+// What to do with a section, all of it known.
+#[derive(Drop)]
+pub struct SectionJob {
+    pub action: Action,
+    pub key: String,
+    pub office: u32,
+    pub serial: u64,
+    pub header: Option<String>,
+    pub input: String,
+    pub output: String,
+}
+
+#[derive(Clone, Copy)]
+pub enum Action {
+    Seal,
+    Open,
 }
 
 #[derive(Clone, Copy)]
@@ -88,6 +107,7 @@ struct Given {
     header: Option<String>,
     progress: bool,
     file: Option<String>,
+    second: Option<String>,
 }
 
 // Fills a place that is empty.
@@ -119,6 +139,7 @@ impl Given {
             header: None,
             progress: false,
             file: None,
+            second: None,
         }
     }
 
@@ -153,11 +174,30 @@ impl Given {
         if word.as_str() != "-" && word.as_str().starts_with('-') {
             return Err(Usage::UnknownOption(word));
         }
-        if self.file.is_some() {
-            return Err(Usage::SecondFile(word));
+        if self.second.is_some() {
+            return Err(Usage::ExtraFile(word));
         }
-        self.file = Some(word);
+        if self.file.is_some() {
+            self.second = Some(word);
+        } else {
+            self.file = Some(word);
+        }
         Ok(())
+    }
+
+    // An option that is of no use to a section.
+    fn unfit_for_section(&self) -> Option<Name> {
+        if self.mode.is_some() {
+            Some(Name::Mode)
+        } else if self.bytes.is_some() {
+            Some(Name::Bytes)
+        } else if self.tag.is_some() {
+            Some(Name::Tag)
+        } else if self.progress {
+            Some(Name::Progress)
+        } else {
+            None
+        }
     }
 }
 
@@ -183,8 +223,17 @@ fn purpose_of(
     }
 }
 
+// A tag is of one file.
+fn refuse_second(file: Option<String>) -> Result<(), Usage> {
+    match file {
+        Some(word) => Err(Usage::ExtraFile(word)),
+        None => Ok(()),
+    }
+}
+
 // What is left out has its default, or is missing.
 fn completed(verb: Verb, given: Given) -> Result<Job, Usage> {
+    refuse_second(given.second)?;
     let mode = given.mode.unwrap_or(ModeChoice::Smac1);
     Ok(Job {
         purpose: purpose_of(verb, mode, given.bytes, given.tag)?,
@@ -198,17 +247,47 @@ fn completed(verb: Verb, given: Given) -> Result<Job, Usage> {
     })
 }
 
+// The same for a section, with both its files.
+fn completed_section(action: Action, given: Given) -> Result<SectionJob, Usage> {
+    if let Some(name) = given.unfit_for_section() {
+        return Err(Usage::Misplaced(name));
+    }
+    let output = given.second.ok_or(Usage::NotTwoFiles)?;
+    if output.as_str() == "-" {
+        return Err(Usage::StandardOutput);
+    }
+    Ok(SectionJob {
+        action,
+        key: given.key.ok_or(Usage::Missing(Name::Key))?,
+        office: given.office.ok_or(Usage::Missing(Name::Office))?,
+        serial: given.serial.ok_or(Usage::Missing(Name::Serial))?,
+        header: given.header,
+        input: given.file.ok_or(Usage::NotTwoFiles)?,
+        output,
+    })
+}
+
+fn read_work(verb: Verb, words: &mut Words) -> Result<Command, Usage> {
+    let given = Given::read(words)?;
+    Ok(Command::Work(completed(verb, given)?))
+}
+
+fn read_section(action: Action, words: &mut Words) -> Result<Command, Usage> {
+    let given = Given::read(words)?;
+    Ok(Command::Section(completed_section(action, given)?))
+}
+
 pub fn read(rt: &LibcRuntime) -> Result<Command, Usage> {
     let mut words = Words::of(rt)?;
     let Some(first) = words.next() else {
         return Ok(Command::Help);
     };
-    let verb = match first.as_str() {
-        "help" | "--help" | "-h" => return Ok(Command::Help),
-        "tag" => Verb::Tag,
-        "check" => Verb::Check,
-        _ => return Err(Usage::UnknownWord(first)),
-    };
-    let given = Given::read(&mut words)?;
-    Ok(Command::Work(completed(verb, given)?))
+    match first.as_str() {
+        "help" | "--help" | "-h" => Ok(Command::Help),
+        "tag" => read_work(Verb::Tag, &mut words),
+        "check" => read_work(Verb::Check, &mut words),
+        "seal" => read_section(Action::Seal, &mut words),
+        "open" => read_section(Action::Open, &mut words),
+        _ => Err(Usage::UnknownWord(first)),
+    }
 }

@@ -16,7 +16,9 @@ pub enum Usage {
     NoValue(Name),
     Missing(Name),
     NoFile,
-    SecondFile(String),
+    NotTwoFiles,
+    ExtraFile(String),
+    StandardOutput,
     UnknownMode(String),
     NotHex { name: Name, cause: NotHex },
     NotNumber { name: Name, text: String, most: u64 },
@@ -40,7 +42,11 @@ pub impl fmt::Display for Usage as UsageDisplay {
             Usage::NoValue(name) => write!(f, "{name} needs a value (try 'zukeroha help')"),
             Usage::Missing(name) => write!(f, "{name} is missing (try 'zukeroha help')"),
             Usage::NoFile => f.write_str("no file is named (name one, or '-' for standard input)"),
-            Usage::SecondFile(word) => write!(f, "'{word}' is a second file (name one only)"),
+            Usage::NotTwoFiles => f.write_str("name two files, IN and OUT (try 'zukeroha help')"),
+            Usage::ExtraFile(word) => {
+                write!(f, "'{word}' is one file too many (try 'zukeroha help')")
+            }
+            Usage::StandardOutput => f.write_str("OUT cannot be '-' (name a file)"),
             Usage::UnknownMode(text) => write!(
                 f,
                 "unknown mode '{text}' (try smac-1, smac-3/4, smac-1/2 or smac-1x1 to smac-1x16)"
