@@ -63,12 +63,15 @@ pub impl Permutation for Whole as WholePermutation {
     }
 
     fn f_of_moved(x: Words) -> Words {
-        let b = bytes_of(x);
+        let [x0, x1, x2, x3] = x.0.to_le_bytes();
+        let [x4, x5, x6, x7] = x.1.to_le_bytes();
+        let [x8, x9, x10, x11] = x.2.to_le_bytes();
+        let [x12, x13, x14, x15] = x.3.to_le_bytes();
         Words(
-            column(b[0], b[13], b[6], b[9]),
-            column(b[4], b[15], b[2], b[11]),
-            column(b[8], b[5], b[14], b[1]),
-            column(b[12], b[7], b[10], b[3]),
+            column(x0, x13, x6, x9),
+            column(x4, x15, x2, x11),
+            column(x8, x5, x14, x1),
+            column(x12, x7, x10, x3),
         )
     }
 }
@@ -88,12 +91,15 @@ pub impl Permutation for ThreeQuarters as ThreeQuartersPermutation {
     }
 
     fn f_of_moved(x: Words) -> Words {
-        let b = bytes_of(x);
+        let [x0, x1, x2, x3] = x.0.to_le_bytes();
+        let [x4, x5, x6, x7] = x.1.to_le_bytes();
+        let [x8, x9, x10, x11] = x.2.to_le_bytes();
+        let [x12, x13, x14, x15] = x.3.to_le_bytes();
         Words(
-            column(b[7], b[13], b[1], b[9]),
-            column(b[12], b[6], b[2], b[10]),
-            column(b[4], b[11], b[15], b[0]),
-            column(b[8], b[14], b[3], b[5]),
+            column(x7, x13, x1, x9),
+            column(x12, x6, x2, x10),
+            column(x4, x11, x15, x0),
+            column(x8, x14, x3, x5),
         )
     }
 }
@@ -113,12 +119,15 @@ pub impl Permutation for Half as HalfPermutation {
     }
 
     fn f_of_moved(x: Words) -> Words {
-        let b = bytes_of(x);
+        let [x0, x1, x2, x3] = x.0.to_le_bytes();
+        let [x4, x5, x6, x7] = x.1.to_le_bytes();
+        let [x8, x9, x10, x11] = x.2.to_le_bytes();
+        let [x12, x13, x14, x15] = x.3.to_le_bytes();
         Words(
-            column(b[0], b[4], b[8], b[12]),
-            column(b[6], b[3], b[10], b[14]),
-            column(b[9], b[2], b[7], b[15]),
-            column(b[13], b[11], b[1], b[5]),
+            column(x0, x4, x8, x12),
+            column(x6, x3, x10, x14),
+            column(x9, x2, x7, x15),
+            column(x13, x11, x1, x5),
         )
     }
 }

@@ -55,12 +55,15 @@ pub fn xor(x: Words, y: Words) -> Words
 pub fn f_of(x: Words) -> Words
     ensures { λ r. ⌜ bytes r ≡ F (bytes x) ⌝ }
 {
-    let b = bytes_of(x);
+    let [x0, x1, x2, x3] = x.0.to_le_bytes();
+    let [x4, x5, x6, x7] = x.1.to_le_bytes();
+    let [x8, x9, x10, x11] = x.2.to_le_bytes();
+    let [x12, x13, x14, x15] = x.3.to_le_bytes();
     Words(
-        column(b[0], b[5], b[10], b[15]),
-        column(b[4], b[9], b[14], b[3]),
-        column(b[8], b[13], b[2], b[7]),
-        column(b[12], b[1], b[6], b[11]),
+        column(x0, x5, x10, x15),
+        column(x4, x9, x14, x3),
+        column(x8, x13, x2, x7),
+        column(x12, x1, x6, x11),
     )
 }
 

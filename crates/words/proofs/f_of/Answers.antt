@@ -8,5 +8,5 @@ use Rattle.words.proofs.f_of.Needs as need
 pub returns : need.returns
 unfolding bytes
 returns c =
-    let e = c .bytes-of-b .ensures in
-    join4 (c .column .ensures) (c .column-2 .ensures) (c .column-3 .ensures) (c .column-4 .ensures) ∙ rw e (sym (F-columns (bytes (c .args .x))))
+    join4 (c .column .ensures) (c .column-2 .ensures) (c .column-3 .ensures) (c .column-4 .ensures)
+    ∙ rw (c .to-le-bytes .ensures, c .to-le-bytes-2 .ensures, c .to-le-bytes-3 .ensures, c .to-le-bytes-4 .ensures) (sym (F-columns (bytes (c .args .x))))

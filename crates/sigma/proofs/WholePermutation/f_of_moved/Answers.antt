@@ -10,5 +10,5 @@ pub returns : need.returns
 unfolding bytes moved pi-1
 returns c =
     join4 (c .column .ensures) (c .column-2 .ensures) (c .column-3 .ensures) (c .column-4 .ensures)
-    ∙ rw (c .bytes-of-b .ensures)
+    ∙ rw (c .to-le-bytes .ensures, c .to-le-bytes-2 .ensures, c .to-le-bytes-3 .ensures, c .to-le-bytes-4 .ensures)
     (sym (F-columns (moved pi-1 (bytes (c .args .x)))))
