@@ -13,11 +13,11 @@ both : (a b : Bool) → T (a && b) → T a × T b
 both true b t = (tt, t)
 both false b t = absurd t
 
-pub all_below : (n : ℕ) (ks : List ℕ) → T (all_below n ks) → All (λ k. k < n) ks
-all_below n [] t = tt
-all_below n (k ∷ ks) t =
+pub below_all : (n : ℕ) (ks : List ℕ) → T (all_below n ks) → All (λ k. k < n) ks
+below_all n [] t = tt
+below_all n (k ∷ ks) t =
     let h = both (ltb k n) (all_below n ks) t in
-    (ltb→lt k n h.0, all_below n ks h.1)
+    (ltb→lt k n h.0, below_all n ks h.1)
 
 -- one change of place after another is the change by the moved order
 after : (p ks b : List ℕ) → All (λ k. k < length p) ks → pick_l 0 (pick_l 0 b p) ks ≡ pick_l 0 b (pick_l 0 p ks)
@@ -27,7 +27,7 @@ after p (k ∷ ks) b h = ap₂ {C = List ℕ} (λ u v. u ∷ v) (get_or-map (λ 
 undone : (p q b : List ℕ) → length p ≡ 16 → T (all_below 16 q) → moved q p ≡ range_with_len 0 16 → Block b → moved q (moved p b) ≡ b
 unfolding moved
 undone p q b long below e kb =
-    after p q b (rw long (all_below 16 q below)) ∙ ap (pick_l 0 b) e ∙ pick_l_whole 0 b 16 kb.len
+    after p q b (rw long (below_all 16 q below)) ∙ ap (pick_l 0 b) e ∙ pick_l_whole 0 b 16 kb.len
 
 module _ (p q : List ℕ) (inv : Inverse p q) where
   pub moved_back : (b : List ℕ) → Block b → moved q (moved p b) ≡ b

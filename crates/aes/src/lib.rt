@@ -1,4 +1,6 @@
 // The AES round of FIPS 197 and its inverse on blocks of 16 bytes; byte 4c + r stands in row r and column c.
+#![tactic(auto)]
+
 mod tables;
 
 ghost use Rattle.std.specs.Prelude.{◌≡◌};

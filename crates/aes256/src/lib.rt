@@ -1,4 +1,6 @@
 // AES-256 of FIPS 197: the key schedule, and the encryption of a block.
+#![tactic(auto)]
+
 pub mod state;
 
 ghost use Rattle.std.specs.Prelude.{◌≡◌, ◌<◌, ◌≤◌};

@@ -1,4 +1,6 @@
 // The library for C: functions on numbers and byte slices. Each answers 0, or the number of the refusal.
+#![tactic(auto)]
+
 ghost use Rattle.std.specs.Prelude.{◌≡◌};
 ghost use Rattle.capi.specs.Calls.{CTagged, number_of as number_of_answer, AnswersNumber};
 

@@ -1,4 +1,6 @@
 // SubBytes and MixColumns of one column at once, by four tables.
+#![tactic(auto)]
+
 mod tables;
 
 ghost use Rattle.std.specs.Prelude.{◌≡◌};

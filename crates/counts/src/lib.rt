@@ -1,4 +1,6 @@
 // Counts of bytes and of bits, a run's ceiling, and the length block.
+#![tactic(auto)]
+
 pub mod counts;
 pub mod state;
 

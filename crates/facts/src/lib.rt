@@ -1,4 +1,6 @@
 // Facts of the definitions, computed by the checker.
+#![tactic(auto)]
+
 ghost use Rattle.facts.specs.Known.{KnownFacts};
 
 // Published tags, and numbers that a wrong definition would miss.

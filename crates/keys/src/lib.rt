@@ -1,4 +1,6 @@
 // Key slots, serial books and drawn serials, and the IV of a run.
+#![tactic(auto)]
+
 pub mod state;
 
 ghost use Rattle.std.specs.Prelude.{◌≡◌, ◌-◌, replicate};

@@ -1,4 +1,6 @@
 // Keystreams: a word of sixteen bytes at each place.
+#![tactic(auto)]
+
 pub mod state;
 
 ghost use Rattle.std.specs.Prelude.{◌≡◌, ℕ, List};

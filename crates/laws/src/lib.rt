@@ -1,4 +1,6 @@
 // What holds of every list of calls.
+#![tactic(auto)]
+
 ghost use Rattle.mode.specs.Rules.{Lawful};
 ghost use Rattle.smac.specs.Laws.{Smac};
 ghost use Rattle.laws.specs.Comparisons.{LawOfComparisons};

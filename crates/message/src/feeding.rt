@@ -11,8 +11,8 @@ use mode::Mode;
 // Bytes that begin where a block does. Whole blocks go to the mode from where they lie, and the mode works on a copy of its own.
 fn aligned<M: Mode>(mode: &mut M, pending: &mut Pending, bytes: &[u8])
     requires { pending.old.len ≡ 0 }
-    ensures rule { rule mode.new ≡ rule mode.old }
-    ensures fed { fed_of (state mode.new) (held pending.new) ≡ fed (rule mode.old) (fed_of (state mode.old) []) bytes.now }
+    ensures rule { M.rule mode.new ≡ M.rule mode.old }
+    ensures fed { fed_of (M.state mode.new) (held pending.new) ≡ fed (M.rule mode.old) (fed_of (M.state mode.old) []) bytes.now }
 {
     let (whole, tail) = bytes.as_chunks::<16>();
     let mut local = *mode;
@@ -25,8 +25,8 @@ fn aligned<M: Mode>(mode: &mut M, pending: &mut Pending, bytes: &[u8])
 
 // Bytes after those that wait; what does not complete a block waits.
 pub fn feed<M: Mode>(mode: &mut M, pending: &mut Pending, bytes: &[u8])
-    ensures rule { rule mode.new ≡ rule mode.old }
-    ensures fed { fed_of (state mode.new) (held pending.new) ≡ fed (rule mode.old) (fed_of (state mode.old) (held pending.old)) bytes.now }
+    ensures rule { M.rule mode.new ≡ M.rule mode.old }
+    ensures fed { fed_of (M.state mode.new) (held pending.new) ≡ fed (M.rule mode.old) (fed_of (M.state mode.old) (held pending.old)) bytes.now }
 {
     if pending.len == 0 {
         aligned(mode, pending, bytes);
@@ -45,8 +45,8 @@ pub fn feed<M: Mode>(mode: &mut M, pending: &mut Pending, bytes: &[u8])
 
 // The end of a part: pending bytes are filled up with zeros, and absorbed.
 pub fn flush<M: Mode>(mode: &mut M, pending: Pending)
-    ensures rule { rule mode.new ≡ rule mode.old }
-    ensures state { state mode.new ≡ absorbed (rule mode.old) (state mode.old) (flushed (held pending)) }
+    ensures rule { M.rule mode.new ≡ M.rule mode.old }
+    ensures state { M.state mode.new ≡ absorbed (M.rule mode.old) (M.state mode.old) (flushed (held pending)) }
 {
     if pending.len > 0 {
         let block = pending::padded(pending);
@@ -56,8 +56,8 @@ pub fn flush<M: Mode>(mode: &mut M, pending: Pending)
 
 // The zero blocks that are still due; the mode is asked once.
 pub fn fill_up<M: Mode>(mode: &mut M)
-    ensures rule { rule mode.new ≡ rule mode.old }
-    ensures state { state mode.new ≡ filled (rule mode.old) (state mode.old) }
+    ensures rule { M.rule mode.new ≡ M.rule mode.old }
+    ensures state { M.state mode.new ≡ filled (M.rule mode.old) (M.state mode.old) }
 {
     let count = mode.fill();
     let zero = [0; 16];

@@ -1,11 +1,10 @@
 // The four modes in one type, which is a mode too.
+#![tactic(auto)]
+
 pub mod kinds;
 
 ghost use Rattle.modes.specs.Any.{any_chosen, any_rule, any_state, KindChosen};
-ghost use Rattle.smac.proofs.Singles.{whole, three_quarters, half};
-ghost use Rattle.streams.specs.Goods.{lawful1x, good1x};
-ghost use Rattle.singles.specs.Goods.{good1, good34, good12};
-ghost use Rattle.std.proofs.Common.{arith};
+ghost use Rattle.modes.specs.Goods.{any_lawful, any_good, any_short};
 
 use crate::kinds::{AnyMode, ModeKind};
 use mode::Mode;
@@ -37,26 +36,11 @@ impl Mode for AnyMode {
 
     ghost state = { any_state };
 
-    ghost lawful = { elim [
-      | any.Smac1 m ↦ whole
-      | any.Smac34 m ↦ three_quarters
-      | any.Smac12 m ↦ half
-      | any.Smac1xN m ↦ lawful1x m
-    ] };
+    ghost lawful = { any_lawful };
 
-    ghost good = { elim [
-      | any.Smac1 m ↦ good1 m
-      | any.Smac34 m ↦ good34 m
-      | any.Smac12 m ↦ good12 m
-      | any.Smac1xN m ↦ good1x m
-    ] };
+    ghost good = { any_good };
 
-    ghost short = { elim [
-      | any.Smac1 m ↦ omega arith
-      | any.Smac34 m ↦ omega arith
-      | any.Smac12 m ↦ omega arith
-      | any.Smac1xN m ↦ omega arith
-    ] };
+    ghost short = { any_short };
 
     fn load(setup: ModeKind, key: &[u8; 32], iv: &[u8; 16]) -> AnyMode {
         match setup {

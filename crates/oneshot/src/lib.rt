@@ -1,4 +1,6 @@
 // The tag of a header and a body that lie in memory, in one call.
+#![tactic(auto)]
+
 ghost use Rattle.std.specs.Prelude.{◌≡◌};
 ghost use Rattle.keys.specs.Keys.{iv_of};
 ghost use Rattle.message.specs.Whole.{MessageTagged, MessageCompared};
@@ -19,7 +21,7 @@ pub fn tag<M: Mode>(
     body: &[u8],
     out: &mut [u8],
 ) -> Result<(), Refusal>
-    ensures { MessageTagged (chosen setup key.now.bytes) key.now.bytes (iv_of serial.office serial.number) header.now body.now out.old result out.new }
+    ensures { MessageTagged (M.chosen setup key.now.bytes) key.now.bytes (iv_of serial.office serial.number) header.now body.now out.old result out.new }
 {
     tag_message::<M>(setup, key.bytes(), &serial.iv(), header, body, out)
 }
@@ -35,7 +37,7 @@ pub fn compare<M: Mode>(
     received: &[u8],
     allowance: &mut Allowance,
 ) -> Result<Verdict, Refusal>
-    ensures { MessageCompared (chosen setup key.now.bytes) key.now.bytes (iv_of office serial) header.now body.now received.now allowance.old.left result allowance.new.left }
+    ensures { MessageCompared (M.chosen setup key.now.bytes) key.now.bytes (iv_of office serial) header.now body.now received.now allowance.old.left result allowance.new.left }
 {
     let iv = iv(office, serial);
     compare_message::<M>(setup, key.bytes(), &iv, header, body, received, allowance)

@@ -1,4 +1,6 @@
 // The three registers as words, and the round on them. The first register is kept as it was before its permutation.
+#![tactic(auto)]
+
 ghost use Rattle.std.specs.Prelude.{◌≡◌};
 ghost use Rattle.rounds.specs.Round.{round, unround};
 ghost use Rattle.rounds.specs.Mixing.{dummy as dummy_of};
@@ -17,7 +19,7 @@ pub struct RegisterWords {
 }
 
 pub fn step<P: Permutation>(s: RegisterWords, m: Words) -> RegisterWords
-    ensures { regs sigma result ≡ round sigma (regs sigma s) (bytes m) }
+    ensures { regs P.sigma result ≡ round P.sigma (regs P.sigma s) (bytes m) }
 {
     RegisterWords {
         p1: xor(xor(s.a2, s.a3), m),
@@ -28,7 +30,7 @@ pub fn step<P: Permutation>(s: RegisterWords, m: Words) -> RegisterWords
 
 // The way back of `step`.
 pub fn unstep<P: Permutation>(s: RegisterWords, m: Words) -> RegisterWords
-    ensures { regs sigma result ≡ unround sigma (regs sigma s) (bytes m) }
+    ensures { regs P.sigma result ≡ unround P.sigma (regs P.sigma s) (bytes m) }
 {
     let a2 = inv_f_of(xor(s.a3, m));
     RegisterWords {
@@ -46,7 +48,7 @@ pub fn dummy() -> Words
 }
 
 pub fn dummy_rounds<P: Permutation>(s: RegisterWords, n: u8) -> RegisterWords
-    ensures { regs sigma result ≡ dummy_rounds_of sigma n (regs sigma s) }
+    ensures { regs P.sigma result ≡ dummy_rounds_of P.sigma n (regs P.sigma s) }
 {
     let mut t = s;
     for _ in 0..n {
@@ -57,14 +59,14 @@ pub fn dummy_rounds<P: Permutation>(s: RegisterWords, n: u8) -> RegisterWords
 
 // The bytes of A1, A2 and A3.
 pub fn bytes_of_registers<P: Permutation>(s: RegisterWords) -> [[u8; 16]; 3]
-    ensures { result ≡ three_of (regs sigma s) }
+    ensures { result ≡ three_of (regs P.sigma s) }
 {
     [bytes_of(P::moved(s.p1)), bytes_of(s.a2), bytes_of(s.a3)]
 }
 
 // Exclusive or, register by register.
 pub fn xor_registers<P: Permutation>(s: RegisterWords, t: RegisterWords) -> RegisterWords
-    ensures { regs sigma result ≡ regs sigma s ⊞ regs sigma t }
+    ensures { regs P.sigma result ≡ regs P.sigma s ⊞ regs P.sigma t }
 {
     RegisterWords {
         p1: xor(s.p1, t.p1),
@@ -74,14 +76,14 @@ pub fn xor_registers<P: Permutation>(s: RegisterWords, t: RegisterWords) -> Regi
 }
 
 pub fn mixed<P: Permutation>(s: RegisterWords) -> RegisterWords
-    ensures { regs sigma result ≡ mixed_of sigma (regs sigma s) }
+    ensures { regs P.sigma result ≡ mixed_of P.sigma (regs P.sigma s) }
 {
     xor_registers::<P>(dummy_rounds::<P>(s, 9), s)
 }
 
 // Key and IV in their registers.
 pub fn keyed<P: Permutation>(key: &[u8; 32], iv: &[u8; 16]) -> RegisterWords
-    ensures { regs sigma result ≡ keyed_of key.now iv.now }
+    ensures { regs P.sigma result ≡ keyed_of key.now iv.now }
 {
     let (halves, _) = key.as_chunks::<16>();
     RegisterWords {

@@ -1,4 +1,6 @@
 // Performs a whole run on pieces that are handed in, and hands back how each was answered.
+#![tactic(auto)]
+
 pub mod state;
 
 ghost use Rattle.std.specs.Prelude.{◌≡◌, ◌<◌, List, map, IfOk};
@@ -39,7 +41,7 @@ fn header_pieces<M: Mode>(
     run: &mut HeaderRun<M>,
     pieces: &[&[u8]],
 ) -> Result<Vec<Answer>, AllocError>
-    ensures { IfOk result (λ v. (calls : List Call) × Answered (map (λ x. x.now) pieces.now) v.items calls × Pieces Piece (header_of rule state run.old) calls (header_of rule state run.new)) }
+    ensures { IfOk result (λ v. (calls : List Call) × Answered (map (λ x. x.now) pieces.now) v.items calls × Pieces Piece (header_of M.rule M.state run.old) calls (header_of M.rule M.state run.new)) }
 {
     let mut answers = Vec::new(heap);
     for piece in pieces {
@@ -55,7 +57,7 @@ fn body_pieces<M: Mode>(
     run: &mut BodyRun<M>,
     pieces: &[&[u8]],
 ) -> Result<Vec<Answer>, AllocError>
-    ensures { IfOk result (λ v. (calls : List Call) × Answered (map (λ x. x.now) pieces.now) v.items calls × Pieces BodyPiece (body_of rule state run.old) calls (body_of rule state run.new)) }
+    ensures { IfOk result (λ v. (calls : List Call) × Answered (map (λ x. x.now) pieces.now) v.items calls × Pieces BodyPiece (body_of M.rule M.state run.old) calls (body_of M.rule M.state run.new)) }
 {
     let mut answers = Vec::new(heap);
     for piece in pieces {
@@ -77,7 +79,7 @@ pub fn replay<M: Mode>(
     header: &[&[u8]],
     body: &[&[u8]],
 ) -> Result<Replayed<M>, AllocError>
-    ensures { IfOk result (λ done. ReplaysAs rule state (chosen setup key.now.bytes) ((chosen setup key.now.bytes).load key.now.bytes (iv_of office serial)) ceiling.most.value
+    ensures { IfOk result (λ done. ReplaysAs M.rule M.state (M.chosen setup key.now.bytes) ((M.chosen setup key.now.bytes).load key.now.bytes (iv_of office serial)) ceiling.most.value
         (map (λ x. x.now) header.now) (map (λ x. x.now) body.now) done) }
 {
     let mut run = HeaderRun::<M>::begin_receiving(setup, key, ceiling, office, serial);
@@ -102,7 +104,7 @@ pub fn replay_both<M: Mode>(
     one: &Handed<'_>,
     two: &Handed<'_>,
 ) -> Result<(Replayed<M>, Replayed<M>), AllocError>
-    ensures { IfOk result (λ both. Both rule state (chosen setup key.now.bytes) ((chosen setup key.now.bytes).load key.now.bytes (iv_of office serial)) ceiling.most.value
+    ensures { IfOk result (λ both. Both M.rule M.state (M.chosen setup key.now.bytes) ((M.chosen setup key.now.bytes).load key.now.bytes (iv_of office serial)) ceiling.most.value
         (map (λ x. x.now) one.now.header.now) (map (λ x. x.now) one.now.body.now) (map (λ x. x.now) two.now.header.now) (map (λ x. x.now) two.now.body.now)
         both.0 both.1) }
 {

@@ -1,4 +1,6 @@
 // SMAC's round of three registers: what it is stands in specs/, and this is what holds of it.
+#![tactic(auto)]
+
 ghost use Rattle.rounds.specs.Permutations.{SigmasAreUndone};
 ghost use Rattle.rounds.specs.Reach.{WalkingBackARound, RoundsTellApart};
 

@@ -21,7 +21,7 @@ impl<M: Mode> HeaderRun<M> {
         ceiling: Ceiling,
         serial: DrawnSerial,
     ) -> HeaderRun<M>
-        ensures { header_of rule state result ≡ begun (chosen setup key.now.bytes) (loaded (chosen setup key.now.bytes) key.now.bytes (iv_of serial.office serial.number)) ceiling.most.value }
+        ensures { header_of M.rule M.state result ≡ begun (M.chosen setup key.now.bytes) (loaded (M.chosen setup key.now.bytes) key.now.bytes (iv_of serial.office serial.number)) ceiling.most.value }
     {
         let mode = M::load(setup, key.bytes(), &serial.iv());
         HeaderRun {
@@ -37,7 +37,7 @@ impl<M: Mode> HeaderRun<M> {
         office: u32,
         serial: u64,
     ) -> HeaderRun<M>
-        ensures { header_of rule state result ≡ begun (chosen setup key.now.bytes) (loaded (chosen setup key.now.bytes) key.now.bytes (iv_of office serial)) ceiling.most.value }
+        ensures { header_of M.rule M.state result ≡ begun (M.chosen setup key.now.bytes) (loaded (M.chosen setup key.now.bytes) key.now.bytes (iv_of office serial)) ceiling.most.value }
     {
         let mode = M::load(setup, key.bytes(), &iv(office, serial));
         HeaderRun {

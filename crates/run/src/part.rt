@@ -11,7 +11,7 @@ use refusals::Refusal;
 impl<M: Mode> Part<M> {
     // A part with nothing accepted.
     pub(crate) fn over(mode: M, ceiling: Ceiling) -> Part<M>
-        ensures { part_of rule state result ≡ begun (rule mode) (state mode) ceiling.most.value }
+        ensures { part_of M.rule M.state result ≡ begun (M.rule mode) (M.state mode) ceiling.most.value }
     {
         Part {
             mode,
@@ -23,7 +23,7 @@ impl<M: Mode> Part<M> {
 
     // Takes a piece whole, or leaves everything as it was.
     pub(crate) fn take(&mut self, piece: &[u8]) -> Result<(), Refusal>
-        ensures { Piece (part_of rule state self.old) piece.now result (part_of rule state self.new) }
+        ensures { Piece (part_of M.rule M.state self.old) piece.now result (part_of M.rule M.state self.new) }
     {
         let Some(count) = self.count.more(piece.len(), self.ceiling) else {
             return Err(Refusal::PastCeiling);

@@ -11,14 +11,14 @@ use refusals::Refusal;
 impl<M: Mode> HeaderRun<M> {
     // A piece of the header, of any length; refused whole where it would pass the ceiling.
     pub fn header_piece(&mut self, piece: &[u8]) -> Result<(), Refusal>
-        ensures { Piece (header_of rule state self.old) piece.now result (header_of rule state self.new) }
+        ensures { Piece (header_of M.rule M.state self.old) piece.now result (header_of M.rule M.state self.new) }
     {
         self.part.take(piece)
     }
 
     // Ends the header and begins the body.
     pub fn turn(self) -> BodyRun<M>
-        ensures { body_of rule state result ≡ turned (header_of rule state self) }
+        ensures { body_of M.rule M.state result ≡ turned (header_of M.rule M.state self) }
     {
         let HeaderRun { part } = self;
         let Part {
@@ -38,14 +38,14 @@ impl<M: Mode> HeaderRun<M> {
 impl<M: Mode> BodyRun<M> {
     // A piece of the body, of any length; refused whole where it would pass the ceiling.
     pub fn body_piece(&mut self, piece: &[u8]) -> Result<(), Refusal>
-        ensures { BodyPiece (body_of rule state self.old) piece.now result (body_of rule state self.new) }
+        ensures { BodyPiece (body_of M.rule M.state self.old) piece.now result (body_of M.rule M.state self.new) }
     {
         self.part.take(piece)
     }
 
     // Ends the body: the length block, and then the zero blocks that the mode asks for.
     pub fn close(self) -> ClosedRun<M>
-        ensures { closed_of rule state result ≡ closed (body_of rule state self) }
+        ensures { closed_of M.rule M.state result ≡ closed (body_of M.rule M.state self) }
     {
         let BodyRun { header, part } = self;
         let Part {

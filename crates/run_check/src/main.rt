@@ -1,4 +1,6 @@
 // Whole runs in each of the four modes, with pieces that are refused on the way: how each piece was answered, the tag, and the way back.
+#![tactic(auto)]
+
 use anyhow::anyhow;
 use counts::state::Ceiling;
 use keys::iv;

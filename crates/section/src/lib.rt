@@ -1,4 +1,6 @@
 // Sealed sections.
+#![tactic(auto)]
+
 mod guard;
 mod masking;
 pub mod opening;

@@ -11,7 +11,7 @@ const FIRST: u32 = 3;
 // Writes the input, each block xored with its word and the last one cut to length.
 pub(crate) fn mask<K: Keystream>(keys: &K, input: &[u8], out: &mut [u8])
     requires { (length out.old ≡ length input.now) × (length input.now ≤ 1048576) }
-    ensures { out.new ≡ masked (words keys.now) input.now }
+    ensures { out.new ≡ masked (K.words keys.now) input.now }
 {
     let whole = input.len() / 16;
     for j in 0..whole {

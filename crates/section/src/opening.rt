@@ -15,7 +15,7 @@ pub fn open_under<K: Keystream>(
     section: &[u8],
     out: &mut [u8],
 ) -> Result<(), Refusal>
-    ensures { Opened (words keys.now) header.now section.now out.old result out.new }
+    ensures { Opened (K.words keys.now) header.now section.now out.old result out.new }
 {
     let len = section.len();
     if header.len() > LARGEST || len < TAG || len > LARGEST + TAG {

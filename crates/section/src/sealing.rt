@@ -14,7 +14,7 @@ pub fn seal_under<K: Keystream>(
     body: &[u8],
     out: &mut [u8],
 ) -> Result<(), Refusal>
-    ensures { Sealed (words keys.now) header.now body.now out.old result out.new }
+    ensures { Sealed (K.words keys.now) header.now body.now out.old result out.new }
 {
     let len = body.len();
     if header.len() > LARGEST || len > LARGEST {

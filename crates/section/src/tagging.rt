@@ -15,7 +15,7 @@ use tags::state::{Allowance, Verdict};
 
 fn closing<K: Keystream>(keys: &K, header: &[u8], ciphertext: &[u8]) -> ClosedRun<Smac1>
     requires { (length header.now ≤ 1048576) × (length ciphertext.now ≤ 1048576) }
-    ensures { closed_of (λ _. smac1) state1 result ≡ record { rule = smac1; state = closing_state (words keys.now) header.now ciphertext.now } }
+    ensures { closed_of (λ _. smac1) state1 result ≡ record { rule = smac1; state = closing_state (K.words keys.now) header.now ciphertext.now } }
 {
     let mut run = HeaderRun::<Smac1>::begin_with_registers(
         &keys.word(0),
@@ -36,7 +36,7 @@ fn closing<K: Keystream>(keys: &K, header: &[u8], ciphertext: &[u8]) -> ClosedRu
 // The tag itself, to be written.
 pub(crate) fn section_tag<K: Keystream>(keys: &K, header: &[u8], ciphertext: &[u8]) -> [u8; 16]
     requires { (length header.now ≤ 1048576) × (length ciphertext.now ≤ 1048576) }
-    ensures { result ≡ section_tag_of (words keys.now) header.now ciphertext.now }
+    ensures { result ≡ section_tag_of (K.words keys.now) header.now ciphertext.now }
 {
     let mut tag = [0; 16];
     let Ok(()) = closing(keys, header, ciphertext).tag(&mut tag) else {
@@ -53,7 +53,7 @@ pub(crate) fn verify<K: Keystream>(
     received: &[u8],
 ) -> Result<(), Refusal>
     requires { (length header.now ≤ 1048576) × ((length ciphertext.now ≤ 1048576) × (length received.now ≡ 16)) }
-    ensures { Verified (received.now ≡ section_tag_of (words keys.now) header.now ciphertext.now) result }
+    ensures { Verified (received.now ≡ section_tag_of (K.words keys.now) header.now ciphertext.now) result }
 {
     let mut allowance = Allowance::new(1);
     let Ok(verdict) = closing(keys, header, ciphertext).compare(received, &mut allowance) else {

@@ -1,4 +1,6 @@
 // What holds of every section that was sealed, and of every two.
+#![tactic(auto)]
+
 ghost use Rattle.std.specs.Prelude.{ℕ, List};
 ghost use Rattle.mode.specs.Rules.{Key};
 ghost use Rattle.keystream.specs.Keystream.{OfBlocks, keystream};

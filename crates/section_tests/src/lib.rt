@@ -1,4 +1,6 @@
 // Tests of sealed sections.
+#![tactic(auto)]
+
 #[cfg(test)]
 mod tables;
 #[cfg(test)]

@@ -5,7 +5,7 @@ use Rattle.std.proofs.lemmas.List.{get_or-map}
 use Rattle.std.proofs.ByRecursion.{All-get_or}
 use Rattle.aes.specs.Blocks.{Order, block, moved}
 use Rattle.aes.proofs.Blocks.{is_block}
-use Rattle.aes.proofs.Moved.{all_below}
+use Rattle.aes.proofs.Moved.{below_all}
 
 pub moved_is : (order b : List ℕ) → Order order → moved order b ≡ block (λ i. get_or b (get_or order i 0) 0)
 unfolding moved
@@ -14,4 +14,4 @@ moved_is order b o =
     (λ k h. get_or-map (λ j. get_or b j 0) order k 0 0 (omega (arith, o.whole)))
 
 pub place_below : (order : List ℕ) → Order order → (i : ℕ) → i < 16 → get_or order i 0 < 16
-place_below order o i h = All-get_or (λ k. k < 16) order i 0 (omega (arith, o.whole)) (all_below 16 order o.below)
+place_below order o i h = All-get_or (λ k. k < 16) order i 0 (omega (arith, o.whole)) (below_all 16 order o.below)

@@ -1,4 +1,6 @@
 // The permutations of a block's bytes that the modes use, on words.
+#![tactic(auto)]
+
 mod tables;
 
 ghost use Rattle.std.specs.Prelude.{◌≡◌};

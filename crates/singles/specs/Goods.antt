@@ -1,4 +1,5 @@
 -- Every value of the modes of three registers stands for a good state.
+use Rattle.std.specs.Prelude.{◌≤◌}
 use Rattle.std.proofs.Common.{arith}
 use Rattle.rounds.specs.Paced.{smac_1, smac_3/4, smac_1/2}
 use Rattle.rounds.proofs.Permutations.{sigma1_undone, sigma34_undone, sigma12_undone}
@@ -21,3 +22,13 @@ good34 m = record { fit = fit_only sigma34 sigma34_undone smac_3/4 2 20 (regs si
 
 pub good12 : (m : Smac12) → Good smac12 (state12 m)
 good12 m = record { fit = fit_only sigma12 sigma12_undone smac_1/2 1 32 (regs sigma12 m.regs) (regs_sound sigma12 sigma12_undone m.regs); within = omega arith }
+
+-- `finish` has room for the largest tag of each
+pub short1 : (m : Smac1) → smac1.largest ≤ 32
+short1 m = omega arith
+
+pub short34 : (m : Smac34) → smac34.largest ≤ 32
+short34 m = omega arith
+
+pub short12 : (m : Smac12) → smac12.largest ≤ 32
+short12 m = omega arith

@@ -1,4 +1,6 @@
 // SMAC-1, SMAC-3/4 and SMAC-1/2: one set of three registers.
+#![tactic(auto)]
+
 pub mod state;
 
 ghost use Rattle.std.specs.Prelude.{◌≡◌, [], ◌∷◌};
@@ -6,8 +8,7 @@ ghost use Rattle.mode.specs.Rules.{at_first};
 ghost use Rattle.smac.specs.Smac.{smac1, smac34, smac12};
 ghost use Rattle.singles.specs.States.{state1, state34, state12};
 ghost use Rattle.smac.proofs.Singles.{whole, three_quarters, half};
-ghost use Rattle.singles.specs.Goods.{good1, good34, good12};
-ghost use Rattle.std.proofs.Common.{arith};
+ghost use Rattle.singles.specs.Goods.{good1, good34, good12, short1, short34, short12};
 
 use crate::state::{Smac1, Smac12, Smac34};
 use mode::Mode;
@@ -68,7 +69,7 @@ impl Mode for Smac1 {
 
     ghost good = { good1 };
 
-    ghost short = { λ m. omega arith };
+    ghost short = { short1 };
 
     fn load(setup: (), key: &[u8; 32], iv: &[u8; 16]) -> Smac1 {
         Smac1 {
@@ -111,7 +112,7 @@ impl Mode for Smac34 {
 
     ghost good = { good34 };
 
-    ghost short = { λ m. omega arith };
+    ghost short = { short34 };
 
     fn load(setup: (), key: &[u8; 32], iv: &[u8; 16]) -> Smac34 {
         Smac34 {
@@ -170,7 +171,7 @@ impl Mode for Smac12 {
 
     ghost good = { good12 };
 
-    ghost short = { λ m. omega arith };
+    ghost short = { short12 };
 
     fn load(setup: (), key: &[u8; 32], iv: &[u8; 16]) -> Smac12 {
         Smac12 {

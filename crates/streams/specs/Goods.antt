@@ -19,3 +19,7 @@ good1x m =
     let h = m.most in
     let l = m.long in
     record { fit = fit_flat m.count (some m) m.most (shown m.count m.streams) (shown_long m.count m.streams (omega arith)) (shown_sound _); within = m.within }
+
+-- `finish` has room for the largest tag
+pub short1x : (m : Smac1xN) → (smac1x m.count).largest ≤ 32
+short1x m = omega arith

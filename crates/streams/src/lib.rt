@@ -1,4 +1,6 @@
 // SMAC-1×n.
+#![tactic(auto)]
+
 pub mod state;
 
 ghost use Rattle.std.specs.Prelude.{◌≡◌, ◌<◌, ◌≤◌, map};
@@ -7,8 +9,7 @@ ghost use Rattle.registers.specs.Registers.{regs};
 ghost use Rattle.rounds.specs.Permutations.{sigma1};
 ghost use Rattle.smac.specs.Smac.{smac1x, patched as patched_of, stream_start, joined as joined_of};
 ghost use Rattle.streams.specs.States.{state1x, Counted};
-ghost use Rattle.streams.specs.Goods.{lawful1x, good1x};
-ghost use Rattle.std.proofs.Common.{arith};
+ghost use Rattle.streams.specs.Goods.{lawful1x, good1x, short1x};
 
 use crate::state::{Smac1xN, StreamCount};
 use mode::Mode;
@@ -93,7 +94,7 @@ impl Mode for Smac1xN {
 
     ghost good = { good1x };
 
-    ghost short = { λ m. omega arith };
+    ghost short = { short1x };
 
     fn load(setup: StreamCount, key: &[u8; 32], iv: &[u8; 16]) -> Smac1xN {
         let n = setup.n;

@@ -1,4 +1,6 @@
 // Runs the vectors in data/ and prints, for each group, how many agree. A difference is printed with its line, and ends the program with status 1.
+#![tactic(auto)]
+
 mod parse;
 mod tags;
 

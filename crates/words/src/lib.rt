@@ -1,4 +1,6 @@
 // A block as four words, and the AES round on it.
+#![tactic(auto)]
+
 ghost use Rattle.std.specs.Prelude.{◌≡◌, ◌++◌};
 ghost use Rattle.aes.specs.Blocks.{◌⊕◌, moved};
 ghost use Rattle.aes.specs.Round.{F, Finv};

@@ -1,4 +1,6 @@
 // Tags payroll files with SMAC, checks such tags, and seals and opens sections.
+#![tactic(auto)]
+
 mod arguments;
 mod choice;
 mod faults;

@@ -7,7 +7,7 @@ pub loop-i-init : goal.loop-i-init
 loop-i-init c = fill_start _ _ refl
 
 pub loop-i-preserved : goal.loop-i-preserved
-loop-i-preserved c = fill_step _ c.loop-i.out c.loop-i.i _ (omega arith) c.inv-sub-byte.ensures c.loop-i.invariant
+loop-i-preserved c = fill_step _ c.loop-i.out c.loop-i.i _ (omega arith) c.inv_sub_byte.ensures c.loop-i.invariant
 
 pub returns : goal.returns
 unfolding InvSubBytes

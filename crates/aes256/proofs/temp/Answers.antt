@@ -14,11 +14,11 @@ pub returns-in-4 : goal.returns-in-4
 unfolding temp
 returns-in-4 c =
     let e : c.args.m / 4 % 8 ≡ 4 = omega arith in
-    rw e c.sub-byte-in-4.ensures
+    rw e c.sub_byte-in-4.ensures
 
-pub returns-in-default : goal.returns-in-default
+pub returns-in_default : goal.returns-in_default
 unfolding temp
-returns-in-default c =
+returns-in_default c =
     let a : c.args.m / 4 % 8 ≡ 0 → ⊥ = search rules in
     let b : c.args.m / 4 % 8 ≡ 4 → ⊥ = search rules in
     sym (cond-false _ _ _ (ne_eqb _ _ a) ∙ cond-false _ _ _ (ne_eqb _ _ b))

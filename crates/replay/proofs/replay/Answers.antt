@@ -7,8 +7,8 @@ use Rattle.replay.proofs.replay.Goals as goal
 pub returns : goal.returns
 returns g c =
     let laws = g.met.M.Mode in
-    let mode = c.begin-receiving-run.result.part.mode in
-    let begins = c.begin-receiving-run.ensures in
+    let mode = c.begin_receiving-run.result.part.mode in
+    let begins = c.begin_receiving-run.ensures in
     performs _ _ c.args.ceiling.most.value _ _ _ _ _ _ _ _ _
     (subst (λ (z : Open). Lawful z.rule) begins (laws.lawful mode)) (subst (λ (z : Open). Good z.rule z.fed.state) begins (laws.good mode)) c.args.ceiling.most.below
-    begins c.in-ok-header-answers.ensures c.turn-run.ensures c.in-ok-body-answers.ensures c.close.ensures
+    begins c.in_ok-header_answers.ensures c.turn-run.ensures c.in_ok-body_answers.ensures c.close.ensures

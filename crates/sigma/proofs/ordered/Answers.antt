@@ -10,7 +10,7 @@ bounds-b-order c = place_below c.args.order.now c.requires c.loop-i.i (omega ari
 pub returns : goal.returns
 returns c =
     let order = c.args.order.now in
-    c.words-of.ensures
+    c.words_of.ensures
     ∙ fill_end _ c.loop-i.out c.loop-i.i (omega arith) c.loop-i.invariant
-    ∙ sym (moved_is order c.bytes-of-b.result c.requires)
-    ∙ ap (moved order) c.bytes-of-b.ensures
+    ∙ sym (moved_is order c.bytes_of-b.result c.requires)
+    ∙ ap (moved order) c.bytes_of-b.ensures

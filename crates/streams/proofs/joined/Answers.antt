@@ -10,7 +10,7 @@ loop-s-init c = empty_zero
 
 pub loop-s-preserved : goal.loop-s-preserved
 loop-s-preserved c =
-    c.xor-registers-sum.ensures
+    c.xor_registers-sum.ensures
     ∙ ap₂ ◌⊞◌ c.loop-s.invariant c.dummy_rounds.ensures
     ∙ sym (fold_more add zero_registers c.args.streams.now c.loop-s.s-index empty c.loop-s-test.true)
 

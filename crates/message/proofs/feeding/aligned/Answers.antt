@@ -9,7 +9,7 @@ pub loop-block-preserved : goal.loop-block-preserved
 loop-block-preserved g c =
     let m = g.M.Mode in
     let r = m.rule c.args.mode.now in
-    let xs = c.as-chunks.result.0.now in
+    let xs = c.as_chunks.result.0.now in
     let i = c.loop-block.block-index in
     let kept = c.loop-block.invariant.0 in (
       c.absorb.ensures.rule ∙ kept,
@@ -22,12 +22,12 @@ pub returns : goal.returns
 returns g c =
     let m = g.M.Mode in
     let r = m.rule c.args.mode.now in
-    let xs = c.as-chunks.result.0.now in
-    let chunks = c.as-chunks.ensures in
+    let xs = c.as_chunks.result.0.now in
+    let chunks = c.as_chunks.ensures in
     record {
       rule = c.loop-block.invariant.0;
-      fed = fed_aligned r (m.state c.args.mode.now) (m.state c.loop-block.local) c.args.bytes.now xs c.as-chunks.result.1.now _
+      fed = fed_aligned r (m.state c.args.mode.now) (m.state c.loop-block.local) c.args.bytes.now xs c.as_chunks.result.1.now _
           chunks.front chunks.back (omega (arith, chunks.back_len))
           (sym (at_drop_all (absorbed r (m.state c.loop-block.local)) xs c.loop-block.block-index c.loop-block-test.false) ∙ c.loop-block.invariant.1)
-          (c.add.ensures ∙ ap (λ n. take n c.args.pending.now.bytes ++ c.as-chunks.result.1.now) c.requires);
+          (c.add.ensures ∙ ap (λ n. take n c.args.pending.now.bytes ++ c.as_chunks.result.1.now) c.requires);
     }

@@ -20,11 +20,11 @@ returns g c =
     let m = g.M.Mode in
     let r = m.rule c.args.mode.now in
     let p = c.args.pending.now in
-    let parts = c.split-at.ensures in
-    let back = c.split-at.result.1.now in
+    let parts = c.split_at.ensures in
+    let back = c.split_at.result.1.now in
     record {
       rule = c.aligned-2.ensures.rule ∙ c.absorb.ensures.rule;
-      fed = fed_topped r (m.state c.args.mode.now) (m.state c.absorb.new.self) (held p) c.args.bytes.now c.split-at.result.0.now back c.complete-block.result _
-          (omega (arith, held_length p, p.ok.0)) (omega (arith, held_length p, parts.front-len)) parts.by_index.0 c.complete-block.ensures.block c.absorb.ensures.state
+      fed = fed_topped r (m.state c.args.mode.now) (m.state c.absorb.new.self) (held p) c.args.bytes.now c.split_at.result.0.now back c.complete-block.result _
+          (omega (arith, held_length p, p.ok.0)) (omega (arith, held_length p, parts.front_len)) parts.by_index.0 c.complete-block.ensures.block c.absorb.ensures.state
           (c.aligned-2.ensures.fed ∙ ap (λ q. fed q (fed_of (m.state c.absorb.new.self) []) back) c.absorb.ensures.rule);
     }

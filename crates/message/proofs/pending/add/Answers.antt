@@ -5,12 +5,12 @@ use Rattle.message.proofs.pending.add.Goals as goal
 pub returns : goal.returns
 returns c =
     let p = c.args.pending.now in
-    let copied = c.copy-from-slice.ensures.after in
+    let copied = c.copy_from_slice.ensures.after in
     take-put_mid p.len _ p.bytes _ _ (ap (λ xs. p.len + length xs) (sym copied)) (omega (arith, p.ok.0, p.ok.1))
     ∙ ap (λ xs. take p.len p.bytes ++ xs) copied
 
-pub invariant-of-pending : goal.invariant-of-pending
-invariant-of-pending c =
+pub invariant_of-pending : goal.invariant_of-pending
+invariant_of-pending c =
     let p = c.args.pending.now in
-    let copied = c.copy-from-slice.ensures.after in
-    ((c.requires, simp (length-append, length-take, length-drop) (omega (arith, p.ok.0, p.ok.1, ap length copied))), tt)
+    let copied = c.copy_from_slice.ensures.after in
+    record { ok = (c.requires, simp (length-append, length-take, length-drop) (omega (arith, p.ok.0, p.ok.1, ap length copied))) }

@@ -7,6 +7,6 @@ pub returns : goal.returns
 returns c =
     let p = c.args.pending in
     let z : p.len - 0 ≡ p.len = omega arith in
-    ap (λ xs. xs ++ drop (p.len - 0) (replicate 16 0)) (c.copy-from-slice.ensures.after ∙ ap (λ n. take n p.bytes) z)
+    ap (λ xs. xs ++ drop (p.len - 0) (replicate 16 0)) (c.copy_from_slice.ensures.after ∙ ap (λ n. take n p.bytes) z)
     ∙ ap (λ n. held p ++ drop n (replicate 16 0)) z
     ∙ ap (λ xs. held p ++ xs) (drop-replicate p.len 16 0)

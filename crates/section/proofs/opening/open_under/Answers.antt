@@ -3,11 +3,11 @@ use Rattle.std.proofs.lemmas.Result.{err_from_is_err_and}
 use Rattle.section.proofs.Splits.{is_section, no_section}
 use Rattle.section.proofs.opening.open_under.Goals as goal
 
-pub returns-in-err-verify : goal.returns-in-err-verify
-returns-in-err-verify g c =
+pub returns-in_err-verify : goal.returns-in_err-verify
+returns-in_err-verify g c =
     let p = err_from_is_err_and c.from-residual.result c.from-residual.ensures.1 in
     let keys = c.args.keys.now in
-    let refused = c.in-err-verify.ensures in
+    let refused = c.in_err-verify.ensures in
     let long : length c.mask.new.out ≡ length c.args.out.now = omega arith in
     rw (p.1, p.2)
     (inr (inr (
@@ -15,8 +15,8 @@ returns-in-err-verify g c =
       search rules,
       omega arith,
       refused.1,
-      no_section (g.K.Keystream.words keys) (g.met.K.Keystream.block keys) c.args.header.now c.args.section.now c.split-at.result.0.now c.split-at.result.1.now
-          (λ i. (c.type-inv.header i).fits) (λ i. (c.type-inv.section i).fits) c.split-at.ensures.by_index.0 (omega arith) refused.0,
+      no_section (g.K.Keystream.words keys) (g.met.K.Keystream.block keys) c.args.header.now c.args.section.now c.split_at.result.0.now c.split_at.result.1.now
+          (λ i. (c.type_inv.header i).fits) (λ i. (c.type_inv.section i).fits) c.split_at.ensures.by_index.0 (omega arith) refused.0,
     )))
 
 pub returns : goal.returns
@@ -25,6 +25,6 @@ returns g c =
       search rules,
       omega arith,
       omega (arith, ap length c.drop-guard-2.ensures),
-      is_section z c.args.header.now c.args.section.now c.split-at.result.0.now c.split-at.result.1.now c.drop-guard-2.new.self.0
-          c.split-at.ensures.by_index.0 c.in-ok-verify.ensures (c.drop-guard-2.ensures ∙ c.mask.ensures),
+      is_section z c.args.header.now c.args.section.now c.split_at.result.0.now c.split_at.result.1.now c.drop-guard-2.new.self.0
+          c.split_at.ensures.by_index.0 c.in_ok-verify.ensures (c.drop-guard-2.ensures ∙ c.mask.ensures),
     )

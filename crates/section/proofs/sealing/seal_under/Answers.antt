@@ -18,6 +18,6 @@ returns g c =
     let cut : take (n - 0) (front ++ rest) ≡ front = ap (λ (k : ℕ). take k (front ++ rest)) none ∙ take_at front rest n long in (
       search rules,
       search rules,
-      behind_front front rest c.copy-from-slice.new.self n (length (front ++ rest) - n) long (omega arith)
-          ∙ ap₂ ◌++◌ c.mask.ensures (c.copy-from-slice.ensures.after ∙ c.section-tag-tag.ensures ∙ ap (section_tag z header) (cut ∙ c.mask.ensures)),
+      behind_front front rest c.copy_from_slice.new.self n (length (front ++ rest) - n) long (omega arith)
+          ∙ ap₂ ◌++◌ c.mask.ensures (c.copy_from_slice.ensures.after ∙ c.section_tag-tag.ensures ∙ ap (section_tag z header) (cut ∙ c.mask.ensures)),
     )

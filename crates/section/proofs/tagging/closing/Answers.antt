@@ -6,8 +6,8 @@ use Rattle.section.proofs.tagging.closing.Goals as goal
 
 pub returns : goal.returns
 returns g c =
-    let headed = header_of (λ _. smac1) state1 c.header-piece.new.self in
-    let bodied = body_of (λ _. smac1) state1 c.body-piece.new.self in
+    let headed = header_of (λ _. smac1) state1 c.header_piece.new.self in
+    let bodied = body_of (λ _. smac1) state1 c.body_piece.new.self in
     closes (g.K.Keystream.words c.args.keys.now) c.args.header.now c.args.ciphertext.now _ _ _ c.highest.result.most.value _ headed _ bodied _
-    c.highest.result.most.below (λ i. (c.type-inv.header i).fits) (λ i. (c.type-inv.ciphertext i).fits) c.word.ensures c.word-2.ensures c.word-3.ensures
-    c.begin-with-registers-run.ensures c.in-Ok.ensures c.turn-run.ensures c.in-Ok-body-piece.ensures c.close.ensures
+    c.highest.result.most.below (λ i. (c.type_inv.header i).fits) (λ i. (c.type_inv.ciphertext i).fits) c.word.ensures c.word-2.ensures c.word-3.ensures
+    c.begin_with_registers-run.ensures c.in-Ok.ensures c.turn-run.ensures c.in-Ok-body-piece.ensures c.close.ensures

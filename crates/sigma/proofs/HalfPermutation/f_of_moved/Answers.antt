@@ -10,5 +10,5 @@ pub returns : goal.returns
 unfolding bytes moved pi_1/2
 returns c =
     join4 c.column.ensures c.column-2.ensures c.column-3.ensures c.column-4.ensures
-    ∙ rw (c.to-le-bytes.ensures, c.to-le-bytes-2.ensures, c.to-le-bytes-3.ensures, c.to-le-bytes-4.ensures)
+    ∙ rw (c.to_le_bytes.ensures, c.to_le_bytes-2.ensures, c.to_le_bytes-3.ensures, c.to_le_bytes-4.ensures)
     (sym (F_columns (moved pi_1/2 (bytes c.args.x))))

@@ -13,6 +13,6 @@ returns c =
       rule = refl;
       state = same_state
           (changed m.count m.streams m.place c.step.result empty (λ s. round sigma1 s c.args.block.now) m.within n
-          (c.step.ensures ∙ ap (round sigma1 _) c.words-of.ensures))
-          c.next-place-self.ensures.is;
+          (c.step.ensures ∙ ap (round sigma1 _) c.words_of.ensures))
+          c.next_place-self.ensures.is;
     }

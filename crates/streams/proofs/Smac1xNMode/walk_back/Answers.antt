@@ -15,8 +15,8 @@ returns c =
     record {
       rule = refl;
       state = same_state
-          (changed m.count m.streams c.prev-place-p.result c.unstep.result empty (λ s. unround sigma1 s c.args.block.now) c.prev-place-p.ensures.within n
-          (c.unstep.ensures ∙ ap (unround sigma1 _) c.words-of.ensures)
-          ∙ ap (λ (p : ℕ). flat (set ts p (unround sigma1 (get_or ts p blank) c.args.block.now))) c.prev-place-p.ensures.is)
-          c.prev-place-p.ensures.is;
+          (changed m.count m.streams c.prev_place-p.result c.unstep.result empty (λ s. unround sigma1 s c.args.block.now) c.prev_place-p.ensures.within n
+          (c.unstep.ensures ∙ ap (unround sigma1 _) c.words_of.ensures)
+          ∙ ap (λ (p : ℕ). flat (set ts p (unround sigma1 (get_or ts p blank) c.args.block.now))) c.prev_place-p.ensures.is)
+          c.prev_place-p.ensures.is;
     }

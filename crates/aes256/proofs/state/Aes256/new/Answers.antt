@@ -3,7 +3,7 @@ use Rattle.aes256.proofs.Steps.{grow_start, grow_more, grow_end}
 use Rattle.aes256.proofs.state.Aes256.new.Goals as goal
 
 pub loop-m-init : goal.loop-m-init
-loop-m-init c = grow_start _ _ (replicate 208 0) c.copy-from-slice.ensures.after c.told-key refl
+loop-m-init c = grow_start _ _ (replicate 208 0) c.copy_from_slice.ensures.after c.told-key refl
 
 pub loop-m-preserved : goal.loop-m-preserved
 loop-m-preserved c = (

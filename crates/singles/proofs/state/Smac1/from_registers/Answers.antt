@@ -7,5 +7,5 @@ use Rattle.singles.proofs.state.Smac1.from_registers.Goals as goal
 
 pub returns : goal.returns
 returns c =
-    let e = moved_there pi_1 pi_1 sigma1_undone (bytes c.words-of.result) (bytes_block c.words-of.result) in
+    let e = moved_there pi_1 pi_1 sigma1_undone (bytes c.words_of.result) (bytes_block c.words_of.result) in
     cc
