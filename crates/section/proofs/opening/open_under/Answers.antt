@@ -5,7 +5,7 @@ use Rattle.section.proofs.opening.open_under.Goals as goal
 
 pub returns-in_err-verify : goal.returns-in_err-verify
 returns-in_err-verify g c =
-    let p = err_from_is_err_and c.from-residual.result c.from-residual.ensures.1 in
+    let p = err_from_is_err_and c.from_residual.result c.from_residual.ensures.1 in
     let keys = c.args.keys.now in
     let refused = c.in_err-verify.ensures in
     let long : length c.mask.new.out ≡ length c.args.out.now = omega arith in
