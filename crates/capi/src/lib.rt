@@ -1,4 +1,4 @@
-// The library for C: functions on numbers and byte slices. Each answers 0, or the number of the refusal.
+// The library for C, as functions on numbers and byte slices. Each answers 0, or the number of the refusal; capi_c exports them.
 #![tactic(auto)]
 
 ghost use Rattle.std.specs.Prelude.{◌≡◌};
@@ -45,8 +45,7 @@ fn number_of(answer: Result<(), Refusal>) -> u8
 }
 
 // Tags a message in memory. The serial counts as drawn from a book of that one serial.
-#[unsafe(no_mangle)]
-pub extern "C" fn zukeroha_tag(
+pub fn zukeroha_tag(
     mode: u8,
     streams: u8,
     key: &[u8],
