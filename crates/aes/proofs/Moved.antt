@@ -2,7 +2,7 @@
 use Rattle.std.proofs.Common.{◌≡◌, ℕ, suc, ◌<◌, ◌≤◌, Bool, true, false, ◌&&◌, T, ltb, List, [], ◌∷◌, map, length, get_or, sym, refl, ap, ◌∙◌, subst, ap₂, arith, ltb→lt}
 use lib.Lanes.{pick_l, all_below}
 use lib.ListN.{length-map}
-use Rattle.std.specs.List.{range_with_len, AllByRecursion as All}
+use Rattle.std.specs.List.{range_with_len, AllByRecursion}
 use Rattle.std.proofs.lemmas.List.{get_or-map}
 use Rattle.std.proofs.lemmas.Simd.{pick_l_whole}
 use Rattle.aes.proofs.Blocks.{is_bytes}
@@ -13,14 +13,14 @@ both : (a b : Bool) → T (a && b) → T a × T b
 both true b t = (tt, t)
 both false b t = absurd t
 
-pub below_all : (n : ℕ) (ks : List ℕ) → T (all_below n ks) → All (λ k. k < n) ks
+pub below_all : (n : ℕ) (ks : List ℕ) → T (all_below n ks) → AllByRecursion (λ k. k < n) ks
 below_all n [] t = tt
 below_all n (k ∷ ks) t =
     let h = both (ltb k n) (all_below n ks) t in
     (ltb→lt k n h.0, below_all n ks h.1)
 
 -- one change of place after another is the change by the moved order
-after : (p ks b : List ℕ) → All (λ k. k < length p) ks → pick_l 0 (pick_l 0 b p) ks ≡ pick_l 0 b (pick_l 0 p ks)
+after : (p ks b : List ℕ) → AllByRecursion (λ k. k < length p) ks → pick_l 0 (pick_l 0 b p) ks ≡ pick_l 0 b (pick_l 0 p ks)
 after p [] b h = refl
 after p (k ∷ ks) b h = ap₂ {C = List ℕ} (λ u v. u ∷ v) (get_or-map (λ j. get_or b j 0) p k 0 0 h.0) (after p ks b h.1)
 

@@ -1,6 +1,6 @@
 -- Serials drawn from one book.
 use Rattle.std.proofs.Common.{◌≡◌, ℕ, ◌+◌, ◌≤◌, List, Ok, Err, Result, ap, ◌∙◌, subst, arith}
-use Rattle.std.specs.List.{AllByRecursion as All}
+use Rattle.std.specs.List.{AllByRecursion}
 use Rattle.refusals.specs.declared.Refusal.{Refusal}
 use Rattle.keys.specs.declared.state.SerialBook.{SerialBook}
 use Rattle.keys.specs.declared.state.DrawnSerial.{DrawnSerial}
@@ -9,7 +9,7 @@ use Rattle.laws.specs.Draws.{Drawings, none, more, drawn, RisingFrom, LawOfDraws
 
 -- what holds of the serials of a book, told of one with the same office and last
 abbrev Of : ℕ → ℕ → List DrawnSerial → Type 0
-Of office last serials = All (λ s. (s.office ≡ office) × (s.number ≤ last)) serials
+Of office last serials = AllByRecursion (λ s. (s.office ≡ office) × (s.number ≤ last)) serials
 
 abbrev Rises : ℕ → ℕ → ℕ → List DrawnSerial → Type 0
 Rises low office last serials = RisingFrom low serials × Of office last serials

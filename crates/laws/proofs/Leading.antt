@@ -1,6 +1,6 @@
 -- What every run leads to, the way back, and its tag.
 use Rattle.std.proofs.Common.{◌≡◌, ℕ, ◌+◌, ◌<◌, List, [], length, take, Ok, Err, Result, sym, refl, ap, ◌∙◌, subst, inl, inr, arith}
-use Rattle.std.specs.List.{AllByRecursion as All}
+use Rattle.std.specs.List.{AllByRecursion}
 use Rattle.refusals.specs.declared.Refusal.{Refusal}
 use Rattle.aes.specs.Blocks.{Block}
 use Rattle.mode.specs.Rules.{Rule, State, Lawful, Good, Key, at_first, after, absorbed, retraced}
@@ -88,7 +88,7 @@ every_run r law regs good ceiling header body end run =
     let M = message r (accepted header) (accepted body) in
     let e = run_leads r regs ceiling header body end run in
     let z = run_sizes r regs ceiling header body end run in
-    let all : All Block M = message_blocks r (accepted header) (accepted body) z.header_bytes z.body_bytes in
+    let all : AllByRecursion Block M = message_blocks r (accepted header) (accepted body) z.header_bytes z.body_bytes in
     let back : retraced r (absorbed r (at_first regs) M) M ≡ at_first regs = retraced_absorbed r law (at_first regs) M good all in
     record {
       header_refusals = part_judged refl run.header_pieces;

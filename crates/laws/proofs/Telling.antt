@@ -1,6 +1,6 @@
 -- Two runs of one mode from the same registers.
 use Rattle.std.proofs.Common.{◌≡◌, ℕ, List, length, sym, ap, ◌∙◌, inl, inr}
-use Rattle.std.specs.List.{AllByRecursion as All}
+use Rattle.std.specs.List.{AllByRecursion}
 use Rattle.aes.specs.Blocks.{Block}
 use Rattle.rounds.specs.Reach.{Near}
 use Rattle.mode.specs.Rules.{Rule, State, Lawful, Good, at_first, absorbed, place_after}
@@ -12,7 +12,7 @@ use Rattle.laws.specs.Runs.{accepted, EveryTwoRuns, EveryTwoRunsOfAKey}
 use Rattle.laws.proofs.Leading.{run_leads, run_sizes, keyed_good}
 
 -- near lists that lead to equal registers are equal
-told : (r : Rule) → Lawful r → (s : State) (xs ys : List (List ℕ)) → Good r s → All Block xs → All Block ys → Near r.reach xs ys → (absorbed r s xs).regs ≡ (absorbed r s ys).regs → xs ≡ ys
+told : (r : Rule) → Lawful r → (s : State) (xs ys : List (List ℕ)) → Good r s → AllByRecursion Block xs → AllByRecursion Block ys → Near r.reach xs ys → (absorbed r s xs).regs ≡ (absorbed r s ys).regs → xs ≡ ys
 told r law s xs ys g hx hy n e = elim (same_blocks_or_not xs ys) [ inl h ↦ h | inr h ↦ absurd (law.apart s xs ys g hx hy n h e) ]
 
 -- near messages that lead to equal registers have the same header and the same body

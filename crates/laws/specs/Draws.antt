@@ -1,6 +1,6 @@
 -- Any list of draws from one book.
 use Rattle.std.specs.Prelude.{◌≡◌, ℕ, ◌+◌, ◌<◌, ◌≤◌, List, [], ◌∷◌, Ok, Err, Result}
-use Rattle.std.specs.List.{AllByRecursion as All}
+use Rattle.std.specs.List.{AllByRecursion}
 use Rattle.refusals.specs.declared.Refusal.{Refusal}
 use Rattle.keys.specs.declared.state.SerialBook.{SerialBook}
 use Rattle.keys.specs.declared.state.DrawnSerial.{DrawnSerial}
@@ -25,4 +25,4 @@ RisingFrom low (s ∷ serials) = (low ≤ s.number) × RisingFrom (s.number + 1)
 -- serials rise from the first, each of the book's office and none past its last
 abbrev pub LawOfDraws : Type 0
 LawOfDraws = (b c : SerialBook) (answers : List (Result DrawnSerial Refusal)) → Drawings b answers c
-    → RisingFrom (comes b) (drawn answers) × All (λ s. (s.office ≡ b.office) × (s.number ≤ b.last)) (drawn answers)
+    → RisingFrom (comes b) (drawn answers) × AllByRecursion (λ s. (s.office ≡ b.office) × (s.number ≤ b.last)) (drawn answers)

@@ -3,7 +3,7 @@ use Rattle.std.proofs.Common.{◌≡◌, ℕ, List, [], ◌∷◌, ◌++◌, len
 use Rattle.aes.specs.Blocks.{Block}
 use Rattle.rounds.specs.Cycle.{prev}
 use Rattle.rounds.proofs.Cycle.{next_within, prev_within, prev_next, next_prev}
-use Rattle.std.specs.List.{AllByRecursion as All}
+use Rattle.std.specs.List.{AllByRecursion}
 use Rattle.mode.specs.Rules.{Rule, State, Good, Key, Lawful, loaded, after, before, absorbed, retraced, place_after}
 
 pub same_state : {s t : State} → s.regs ≡ t.regs → s.place ≡ t.place → s ≡ t
@@ -40,7 +40,7 @@ retraced_last r s [] b = refl
 retraced_last r s (c ∷ bs) b = ap (λ t. before r t c) (retraced_last r s bs b)
 
 -- walking back over what was absorbed
-pub retraced_absorbed : (r : Rule) → Lawful r → (s : State) (bs : List (List ℕ)) → Good r s → All Block bs → retraced r (absorbed r s bs) bs ≡ s
+pub retraced_absorbed : (r : Rule) → Lawful r → (s : State) (bs : List (List ℕ)) → Good r s → AllByRecursion Block bs → retraced r (absorbed r s bs) bs ≡ s
 retraced_absorbed r law s [] g h = refl
 retraced_absorbed r law s (b ∷ bs) g h =
     ap (λ z. before r z b) (retraced_absorbed r law (after r s b) bs (after_good r law s b g h.0) h.1) ∙ before_after r law s b g h.0

@@ -1,6 +1,6 @@
 -- What a mode is, and the laws that it keeps. The types of a rule's fields say what depends on what.
 use Rattle.std.specs.Prelude.{◌≡◌, ℕ, zero, suc, ◌<◌, ◌≤◌, ◌≢◌, List, [], ◌∷◌, length}
-use Rattle.std.specs.List.{AllByRecursion as All}
+use Rattle.std.specs.List.{AllByRecursion}
 use Rattle.aes.specs.Blocks.{Bytes, Block}
 use Rattle.rounds.specs.Cycle.{next, prev}
 use Rattle.rounds.specs.Reach.{Near}
@@ -59,7 +59,7 @@ place_after r p (suc n) = place_after r (next r.cycle p) n
 -- as many registers as the rule has, each a block
 pub record Fit (r : Rule) (rs : List (List ℕ)) : Type 0 where
   pub many : length rs ≡ r.count
-  pub blocks : All Block rs
+  pub blocks : AllByRecursion Block rs
 
 -- and a place within the cycle
 pub record Good (r : Rule) (s : State) : Type 0 where
@@ -83,11 +83,11 @@ pub record Lawful (r : Rule) : Type 0 where
   pub undo_step : (p : ℕ) (rs : List (List ℕ)) (b : List ℕ) → p < r.cycle → Fit r rs → Block b → r.undo p (r.step p rs b) b ≡ rs
   pub step_undo : (p : ℕ) (rs : List (List ℕ)) (b : List ℕ) → p < r.cycle → Fit r rs → Block b → r.step p (r.undo p rs b) b ≡ rs
   -- from one good state, lists of blocks that differ, but only in one or two blocks at most reach apart, never lead to equal registers
-  pub apart : (s : State) (xs ys : List (List ℕ)) → Good r s → All Block xs → All Block ys → Near r.reach xs ys → xs ≢ ys
+  pub apart : (s : State) (xs ys : List (List ℕ)) → Good r s → AllByRecursion Block xs → AllByRecursion Block ys → Near r.reach xs ys → xs ≢ ys
       → (absorbed r s xs).regs ≢ (absorbed r s ys).regs
   -- finish gives the largest tag
   pub tag_long : (rs : List (List ℕ)) → Fit r rs → length (r.finish rs) ≡ r.largest
 
 -- walking back over blocks, from where absorbing them led, gives the start
 abbrev pub WalksBack : Rule → State → List (List ℕ) → State → Type 0
-WalksBack r end blocks start = (s : State) → Good r s → All Block blocks → end ≡ absorbed r s blocks → start ≡ s
+WalksBack r end blocks start = (s : State) → Good r s → AllByRecursion Block blocks → end ≡ absorbed r s blocks → start ≡ s

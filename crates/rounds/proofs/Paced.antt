@@ -1,6 +1,6 @@
 -- A mode of some pace does the rounds of a longer list of blocks, so its reach is the rounds' reach less the blocks of its own.
 use Rattle.std.proofs.Common.{◌≡◌, ℕ, zero, suc, ◌+◌, ◌<◌, ◌≤◌, Bool, true, false, cond, eqb, ltb, List, [], ◌∷◌, ◌++◌, length, get_or, sym, refl, ap, ◌∙◌, subst, ap₂, inl, inr, le_of_suc-le-suc, not-suc-le-zero, suc-add, zero-add, arith, ltb→lt}
-use Rattle.std.specs.List.{AllByRecursion as All}
+use Rattle.std.specs.List.{AllByRecursion}
 use Rattle.std.proofs.lemmas.List.{append_cancel_left}
 use Rattle.std.proofs.ByRecursion.{All-append}
 use Rattle.std.proofs.lemmas.Bool.Decides.{nat_tests}
@@ -111,11 +111,11 @@ module _ (mode : Pace) where
       ap₂ {C = List (List ℕ)} (λ a b. a ∷ b) (ap (head_or x) e)
       (expand_injective (next mode.cycle p) xs ys (omega arith) (append_cancel_left (mode.own p) (expand (next mode.cycle p) xs) (expand (next mode.cycle p) ys) (ap rest_of e)))
 
-  expand_blocks : ((p : ℕ) → All Block (mode.own p)) → (p : ℕ) (xs : List (List ℕ)) → All Block xs → All Block (expand p xs)
+  expand_blocks : ((p : ℕ) → AllByRecursion Block (mode.own p)) → (p : ℕ) (xs : List (List ℕ)) → AllByRecursion Block xs → AllByRecursion Block (expand p xs)
   expand_blocks h p [] k = tt
   expand_blocks h p (x ∷ xs) k = (k.0, All-append Block (mode.own p) (expand (next mode.cycle p) xs) (h p) (expand_blocks h (next mode.cycle p) xs k.1))
 
-  pub mode_reach : (c : Sigma) → Undone c → ((p : ℕ) → All Block (mode.own p)) → (r : ℕ) → ((p : ℕ) → gap r p ≤ 3) → Reaches r (Held mode) (led c mode)
+  pub mode_reach : (c : Sigma) → Undone c → ((p : ℕ) → AllByRecursion Block (mode.own p)) → (r : ℕ) → ((p : ℕ) → gap r p ≤ 3) → Reaches r (Held mode) (led c mode)
   mode_reach c l blocks r short m xs ys km kxs kys n ne e =
       let p = m.place in
       let f = expand_blocks blocks p in
@@ -137,9 +137,9 @@ three_short p = by (eqb p 2) (eqb (next 3 p) 2) refl refl
     by false true e f = rw (e, f) (omega arith)
     by false false e f = rw (e, f) (omega arith)
 
-pub three_blocks : (p : ℕ) → All Block (smac_3/4.own p)
+pub three_blocks : (p : ℕ) → AllByRecursion Block (smac_3/4.own p)
 three_blocks p = either (eqb p 2)
   where
-    either : (b : Bool) → All Block (cond b (dummy ∷ []) [])
+    either : (b : Bool) → AllByRecursion Block (cond b (dummy ∷ []) [])
     either true = (dummy_block, tt)
     either false = tt

@@ -2,7 +2,7 @@
 use Rattle.std.proofs.Common.{◌≡◌, ℕ, zero, suc, ◌+◌, ◌*◌, ◌/◌, ◌%◌, ◌<◌, ◌≤◌, ◌≢◌, ◌⊎◌, List, [], ◌∷◌, length, get_or, sym, refl, ap, ◌∙◌, inl, inr, mod-lt, mod-eq_of_lt, suc-mul, add-mul, le_of_mul-le-mul_right, arith}
 use native.Mathlib.Nat.{mod-add-div', add-mul-mod_self_right}
 use native.Mathlib.Decide.{ℕ_discrete}
-use Rattle.std.specs.List.{AllByRecursion as All}
+use Rattle.std.specs.List.{AllByRecursion}
 use Rattle.std.proofs.lemmas.List.{same_lists}
 use Rattle.rounds.specs.Reach.{Near}
 
@@ -50,7 +50,7 @@ module _ {A : Type 0} (k : ℕ) where
   length_part zero (x ∷ xs) (y ∷ ys) e = ap suc (length_part k xs ys (omega arith))
   length_part (suc w) (x ∷ xs) (y ∷ ys) e = length_part w xs ys (omega arith)
 
-  pub all_part : (P : A → Type 0) (w : ℕ) (xs : List A) → All P xs → All P (part w xs)
+  pub all_part : (P : A → Type 0) (w : ℕ) (xs : List A) → AllByRecursion P xs → AllByRecursion P (part w xs)
   all_part P w [] h = tt
   all_part P zero (x ∷ xs) h = (h.0, all_part P k xs h.1)
   all_part P (suc w) (x ∷ xs) h = all_part P w xs h.1

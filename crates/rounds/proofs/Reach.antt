@@ -1,6 +1,6 @@
 -- The reach of rounds: three blocks.
 use Rattle.std.proofs.Common.{◌≡◌, ℕ, zero, suc, List, [], ◌∷◌, sym, refl, ap, ◌∙◌, ap₂, inl, inr}
-use Rattle.std.specs.List.{AllByRecursion as All}
+use Rattle.std.specs.List.{AllByRecursion}
 use Rattle.aes.specs.Round.{F}
 use Rattle.aes.proofs.Undo.{F_block}
 use Rattle.aes.specs.Blocks.{Block, ◌⊕◌, moved}
@@ -43,7 +43,7 @@ module _ (c : Sigma) (l : Undone c) where
   unfolding round
   a2_follows s t m e = ap (λ x. F x ⊕ m) e
 
-  pub rounds_injective : (ms : List (List ℕ)) (s t : Registers) → All Block ms → Sound s → Sound t → rounds c s ms ≡ rounds c t ms → s ≡ t
+  pub rounds_injective : (ms : List (List ℕ)) (s t : Registers) → AllByRecursion Block ms → Sound s → Sound t → rounds c s ms ≡ rounds c t ms → s ≡ t
   rounds_injective [] s t k ks kt e = e
   rounds_injective (m ∷ ms) s t k ks kt e =
       round_injective c l s t m ks kt k.0
@@ -70,14 +70,14 @@ module _ (c : Sigma) (l : Undone c) where
         )),
   )
 
-  settle : (s t : Registers) (xs ys : List (List ℕ)) → Sound s → Sound t → All Block xs → xs ≡ ys → rounds c s xs ≡ rounds c t ys → s ≡ t
+  settle : (s t : Registers) (xs ys : List (List ℕ)) → Sound s → Sound t → AllByRecursion Block xs → xs ≡ ys → rounds c s xs ≡ rounds c t ys → s ≡ t
   settle s t xs ys ks kt k p e = rounds_injective xs s t k ks kt (e ∙ ap (rounds c t) (sym p))
 
   before : (s t : Registers) (u v : List ℕ) → Sound s → Sound t → Block u → u ≡ v → round c s u ≡ round c t v → s ≡ t
   before s t u v ks kt ku p e = round_injective c l s t u ks kt ku (e ∙ ap (round c t) (sym p))
 
   -- the blocks after the first difference
-  rest : (r : ℕ) (s t : Registers) (xs ys : List (List ℕ)) → Sound s → Sound t → All Block xs → All Block ys → Tells r s t → Once r xs ys → rounds c s xs ≡ rounds c t ys → (s ≡ t) × (xs ≡ ys)
+  rest : (r : ℕ) (s t : Registers) (xs ys : List (List ℕ)) → Sound s → Sound t → AllByRecursion Block xs → AllByRecursion Block ys → Tells r s t → Once r xs ys → rounds c s xs ≡ rounds c t ys → (s ≡ t) × (xs ≡ ys)
   rest zero s t xs ys ks kt kxs kys w o e = (settle s t xs ys ks kt kxs o e, o)
   rest (suc r) s t [] [] ks kt kxs kys w o e = (e, refl)
   rest (suc r) s t [] (v ∷ ys) ks kt kxs kys w o e = absurd o
@@ -94,7 +94,7 @@ module _ (c : Sigma) (l : Undone c) where
       let on = rest r (round c s u) (round c t u) xs ys su tu kxs.1 kys.1 (w.1 u kxs.0) p.1 (e ∙ ap (λ m. rounds c (round c t m) ys) (sym p.0)) in
       (round_injective c l s t u ks kt kxs.0 on.0, ap₂ {C = List (List ℕ)} (λ a b. a ∷ b) p.0 on.1)
 
-  pub reach : (s : Registers) (xs ys : List (List ℕ)) → Sound s → All Block xs → All Block ys → Twice 3 xs ys → rounds c s xs ≡ rounds c s ys → xs ≡ ys
+  pub reach : (s : Registers) (xs ys : List (List ℕ)) → Sound s → AllByRecursion Block xs → AllByRecursion Block ys → Twice 3 xs ys → rounds c s xs ≡ rounds c s ys → xs ≡ ys
   reach s [] [] ks kxs kys n e = refl
   reach s [] (y ∷ ys) ks kxs kys n e = absurd n
   reach s (x ∷ xs) [] ks kxs kys n e = absurd n

@@ -1,6 +1,6 @@
 -- A round and the way back undo one another.
 use Rattle.std.proofs.Common.{◌≡◌, ℕ, List, [], ◌∷◌, sym, refl, ap, ◌∙◌, ap₂}
-use Rattle.std.specs.List.{AllByRecursion as All}
+use Rattle.std.specs.List.{AllByRecursion}
 use Rattle.aes.specs.Round.{F, Finv}
 use Rattle.aes.proofs.Undo.{F_block, Finv_block, Finv_F, F_Finv}
 use Rattle.aes.specs.Blocks.{Block, ◌⊕◌, moved}
@@ -67,20 +67,20 @@ module _ (c : Sigma) (l : Undone c) where
         three = xor_block (moved c.back s.a1 ⊕ Finv (s.a3 ⊕ m)) m (xor_block (moved c.back s.a1) (Finv (s.a3 ⊕ m)) b g) km;
       }
 
-  pub rounds_sound : (s : Registers) (ms : List (List ℕ)) → Sound s → All Block ms → Sound (rounds c s ms)
+  pub rounds_sound : (s : Registers) (ms : List (List ℕ)) → Sound s → AllByRecursion Block ms → Sound (rounds c s ms)
   rounds_sound s [] ks k = ks
   rounds_sound s (m ∷ ms) ks k = rounds_sound (round c s m) ms (round_sound s m ks k.0) k.1
 
-  pub unrounds_sound : (s : Registers) (ms : List (List ℕ)) → Sound s → All Block ms → Sound (unrounds c s ms)
+  pub unrounds_sound : (s : Registers) (ms : List (List ℕ)) → Sound s → AllByRecursion Block ms → Sound (unrounds c s ms)
   unrounds_sound s [] ks k = ks
   unrounds_sound s (m ∷ ms) ks k = unround_sound (unrounds c s ms) m (unrounds_sound s ms ks k.1) k.0
 
-  pub unrounds_rounds : (ms : List (List ℕ)) (s : Registers) → Sound s → All Block ms → unrounds c (rounds c s ms) ms ≡ s
+  pub unrounds_rounds : (ms : List (List ℕ)) (s : Registers) → Sound s → AllByRecursion Block ms → unrounds c (rounds c s ms) ms ≡ s
   unrounds_rounds [] s ks k = refl
   unrounds_rounds (m ∷ ms) s ks k =
       ap (λ t. unround c t m) (unrounds_rounds ms (round c s m) (round_sound s m ks k.0) k.1) ∙ unround_round s m ks k.0
 
-  pub rounds_unrounds : (ms : List (List ℕ)) (s : Registers) → Sound s → All Block ms → rounds c (unrounds c s ms) ms ≡ s
+  pub rounds_unrounds : (ms : List (List ℕ)) (s : Registers) → Sound s → AllByRecursion Block ms → rounds c (unrounds c s ms) ms ≡ s
   rounds_unrounds [] s ks k = refl
   rounds_unrounds (m ∷ ms) s ks k =
       ap (λ t. rounds c t ms) (round_unround (unrounds c s ms) m (unrounds_sound s ms ks k.1) k.0) ∙ rounds_unrounds ms s ks k.1

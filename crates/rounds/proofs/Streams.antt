@@ -1,6 +1,6 @@
 -- Streams that take the blocks in turn: each does the rounds of its part of them, so the reach is n times that of the rounds.
 use Rattle.std.proofs.Common.{◌≡◌, ℕ, zero, suc, ◌+◌, ◌-◌, ◌*◌, ◌<◌, cond, ltb, leb, ◌≢◌, List, [], ◌∷◌, length, get_or, set, sym, refl, ap, ◌∙◌, ap₂, not-suc-le-zero, arith, length-set}
-use Rattle.std.specs.List.{AllByRecursion as All}
+use Rattle.std.specs.List.{AllByRecursion}
 use Rattle.std.proofs.lemmas.List.{get_or-set_same, get_or-set_other}
 use Rattle.std.proofs.ByRecursion.{All-get_or, All-set}
 use Rattle.std.proofs.lemmas.Bool.Decides.{nat_tests}
@@ -32,7 +32,7 @@ leads c n m bs = (takes c n m bs).streams
 pub record Ready (n : ℕ) (m : Streams) : Type 0 where
   pub count : length m.streams ≡ n
   pub within : m.turn < n
-  pub sound : All Sound m.streams
+  pub sound : AllByRecursion Sound m.streams
 
 -- how many blocks come before the next one of stream j
 abbrev wait : ℕ → ℕ → ℕ → ℕ
@@ -82,7 +82,7 @@ module _ (c : Sigma) (l : Undone c) (k : ℕ) where
   unfolding take
   turned m b = refl
 
-  stream : (bs : List (List ℕ)) (m : Streams) (j w : ℕ) → Ready (suc k) m → All Block bs → j < suc k → wait (suc k) m.turn j ≡ w → get_or (leads c (suc k) m bs) j blank ≡ rounds c (get_or m.streams j blank) (part k w bs)
+  stream : (bs : List (List ℕ)) (m : Streams) (j w : ℕ) → Ready (suc k) m → AllByRecursion Block bs → j < suc k → wait (suc k) m.turn j ≡ w → get_or (leads c (suc k) m bs) j blank ≡ rounds c (get_or m.streams j blank) (part k w bs)
   stream [] m j w r kbs hj e = refl
   stream (b ∷ bs) m j zero r kbs hj e =
       let at : j ≡ m.turn = wait_zero (suc k) m.turn j r.within hj e in

@@ -1,6 +1,6 @@
 -- Lists that agree but in one or two places, and what it is to tell such lists apart.
 use Rattle.std.specs.Prelude.{◌≡◌, ℕ, ◌+◌, ◌≤◌, ◌≢◌, List, length, slice_index_or}
-use Rattle.std.specs.List.{AllByRecursion as All}
+use Rattle.std.specs.List.{AllByRecursion}
 use Rattle.aes.specs.Blocks.{Block}
 use Rattle.rounds.specs.Round.{Registers, Sound, Sigma, Undone, round, unround, rounds}
 
@@ -15,7 +15,7 @@ pub record Near {A : Type 0} (r : ℕ) (xs ys : List A) : Type 0 where
 
 -- from one good state, two lists of blocks that differ, but only in one or two blocks at most r apart, never lead to the same
 abbrev pub Reaches : {S R : Type 0} → ℕ → (S → Type 0) → (S → List (List ℕ) → R) → Type 0
-Reaches {S} {R} r Good run = (s : S) (xs ys : List (List ℕ)) → Good s → All Block xs → All Block ys → Near r xs ys → xs ≢ ys → run s xs ≢ run s ys
+Reaches {S} {R} r Good run = (s : S) (xs ys : List (List ℕ)) → Good s → AllByRecursion Block xs → AllByRecursion Block ys → Near r xs ys → xs ≢ ys → run s xs ≢ run s ys
 
 -- walking back the block just absorbed restores the registers, and so does absorbing the block just walked back
 abbrev pub WalkingBackARound : Type 0

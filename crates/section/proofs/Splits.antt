@@ -2,7 +2,7 @@
 use Rattle.std.proofs.Common.{◌≡◌, ℕ, zero, suc, ◌+◌, ◌≤◌, List, [], ◌∷◌, ◌++◌, length, take, drop, sym, refl, ap, ◌∙◌, subst, ap₂, inl, inr, arith, length-append}
 use borrow.Rule.Slice.PartMut.{put_mid}
 use Rattle.std.proofs.lemmas.List.{take_at, drop_at, drop-drop, drop_all, append-nil}
-use Rattle.std.specs.List.{AllByRecursion as All}
+use Rattle.std.specs.List.{AllByRecursion}
 use Rattle.aes.specs.Blocks.{Bytes, Block}
 use Rattle.mode.specs.Rules.{Rule, State, Lawful, Good, at_first, after, absorbed}
 use Rattle.mode.proofs.States.{after_good}
@@ -32,7 +32,7 @@ behind_front front rest written n k l h =
     let past : drop k (drop n (front ++ rest)) ≡ [] = drop-drop k n (front ++ rest) ∙ drop_all (n + k) (front ++ rest) h in
     ap₂ (λ f p. f ++ (written ++ p)) (take_at front rest n l) past ∙ ap (λ w. front ++ w) (append-nil written)
 
-absorbed_good : (r : Rule) → Lawful r → (s : State) (bs : List (List ℕ)) → Good r s → All Block bs → Good r (absorbed r s bs)
+absorbed_good : (r : Rule) → Lawful r → (s : State) (bs : List (List ℕ)) → Good r s → AllByRecursion Block bs → Good r (absorbed r s bs)
 absorbed_good r law s [] g h = g
 absorbed_good r law s (b ∷ bs) g h = absorbed_good r law (after r s b) bs (after_good r law s b g h.0) h.1
 

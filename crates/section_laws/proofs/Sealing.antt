@@ -1,7 +1,7 @@
 -- The law of sections.
 use Rattle.std.proofs.Common.{◌≡◌, ℕ, zero, suc, ◌+◌, ◌<◌, List, [], ◌∷◌, ◌++◌, length, Ok, Err, Result, sym, refl, ap, ◌∙◌, inl, inr, arith, length-append}
 use lib.Bits.{xor_lt}
-use Rattle.std.specs.List.{AllByRecursion as All}
+use Rattle.std.specs.List.{AllByRecursion}
 use Rattle.refusals.specs.declared.Refusal.{Refusal}
 use Rattle.aes.specs.Blocks.{Bytes, Block}
 use Rattle.mode.specs.Rules.{Good, Key, at_first, absorbed, retraced}
@@ -41,7 +41,7 @@ module _ (z : ℕ → List ℕ) (blocks : OfBlocks z) where
     body_bytes = masked_bytes body w.body_bytes;
   }
 
-  all_blocks : (header body written : List ℕ) → Wrote z header body written → All Block (section_message z header body)
+  all_blocks : (header body written : List ℕ) → Wrote z header body written → AllByRecursion Block (section_message z header body)
   all_blocks header body written w = message_blocks smac1 header (masked z body) w.header_bytes (masked_bytes body w.body_bytes)
 
   pub opens_again : OpensAgain z

@@ -1,6 +1,6 @@
 -- The laws of SMAC-1×n.
 use Rattle.std.proofs.Common.{◌≡◌, ℕ, ◌-◌, ◌*◌, ◌<◌, ◌≤◌, ltb, List, [], ◌∷◌, map, length, get_or, set, replicate, fold, sym, refl, ap, ◌∙◌, subst, arith, ltb→lt, length-set}
-use Rattle.std.specs.List.{range_with_len, AllByRecursion as All}
+use Rattle.std.specs.List.{range_with_len, AllByRecursion}
 use Rattle.std.proofs.lemmas.Bool.Decides.{nat_tests}
 use Rattle.std.proofs.lemmas.List.{get_or-set_same, set-set, set-get_or}
 use Rattle.std.proofs.ByRecursion.{All-get_or, All-set, All-from_get_or}
@@ -34,11 +34,11 @@ zero_registers_sound =
     let z : Block (replicate 16 0) = is_bytes (replicate 16 0) refl small_zero in
     record { one = z; two = z; three = z }
 
-folded_sound : (f : Registers → Registers → Registers) → ((t s : Registers) → Sound t → Sound s → Sound (f t s)) → (t : Registers) (ss : List Registers) → Sound t → All Sound ss → Sound (fold f t ss)
+folded_sound : (f : Registers → Registers → Registers) → ((t s : Registers) → Sound t → Sound s → Sound (f t s)) → (t : Registers) (ss : List Registers) → Sound t → AllByRecursion Sound ss → Sound (fold f t ss)
 folded_sound f h t [] k ks = k
 folded_sound f h t (s ∷ ss) k ks = folded_sound f h (f t s) ss (h t s k ks.0) ks.1
 
-pub joined_sound : (ss : List Registers) → All Sound ss → Sound (joined ss)
+pub joined_sound : (ss : List Registers) → AllByRecursion Sound ss → Sound (joined ss)
 unfolding joined
 joined_sound ss ks =
     folded_sound (λ t s. t ⊞ dummy_rounds sigma1 6 s) (λ t s kt k. sound_xor t (dummy_rounds sigma1 6 s) kt (sound_dummy_rounds sigma1 sigma1_undone 6 s k)) zero_registers ss zero_registers_sound ks
@@ -54,7 +54,7 @@ module _ (n : ℕ) (some : 1 ≤ n) (most : n ≤ 16) where
   abbrev rule : Rule
   rule = smac1x n
 
-  pub fit_flat : (ss : List Registers) → length ss ≡ n → All Sound ss → Fit rule (flat ss)
+  pub fit_flat : (ss : List Registers) → length ss ≡ n → AllByRecursion Sound ss → Fit rule (flat ss)
   fit_flat ss e k = record { many = length_flat ss ∙ ap (λ (m : ℕ). 3 * m) e; blocks = blocks_flat ss k }
 
   abbrev lift : Streams → State
@@ -72,7 +72,7 @@ module _ (n : ℕ) (some : 1 ≤ n) (most : n ≤ 16) where
   long : {rs : List (List ℕ)} → Fit rule rs → length (threes rs) ≡ n
   long {rs} f = length_threes n rs f.many
 
-  sounds : {rs : List (List ℕ)} → Fit rule rs → All Sound (threes rs)
+  sounds : {rs : List (List ℕ)} → Fit rule rs → AllByRecursion Sound (threes rs)
   sounds {rs} f = sound_threes rs f.blocks
 
   sound_at : {rs : List (List ℕ)} → Fit rule rs → (p : ℕ) → p < n → Sound (get_or (threes rs) p blank)
@@ -82,7 +82,7 @@ module _ (n : ℕ) (some : 1 ≤ n) (most : n ≤ 16) where
   fit_set : (rs : List (List ℕ)) (p : ℕ) (s : Registers) → Fit rule rs → Sound s → Fit rule (flat (set (threes rs) p s))
   fit_set rs p s f k = fit_flat (set (threes rs) p s) (length-set (threes rs) p s ∙ long f) (All-set Sound (threes rs) p s k (sounds f))
 
-  starts_at : (key iv : List ℕ) → Key key → Block iv → All Sound (map (stream_start n key iv) (range_with_len 0 n))
+  starts_at : (key iv : List ℕ) → Key key → Block iv → AllByRecursion Sound (map (stream_start n key iv) (range_with_len 0 n))
   starts_at key iv h b =
       let f = stream_start n key iv in
       let e = length-map-range_with_len f 0 n in

@@ -1,6 +1,6 @@
 -- Lists of registers in threes.
 use Rattle.std.proofs.Common.{◌≡◌, ℕ, zero, suc, ◌+◌, ◌-◌, ◌*◌, ◌<◌, ◌≢◌, ◌⊎◌, List, [], ◌∷◌, length, get_or, take, drop, set, replicate, sym, refl, ap, ◌∙◌, subst, inl, inr, arith}
-use Rattle.std.specs.List.{AllByRecursion as All}
+use Rattle.std.specs.List.{AllByRecursion}
 use Rattle.aes.specs.Blocks.{Block}
 use Rattle.aes.proofs.Blocks.{is_bytes}
 use Rattle.aes.proofs.Xor.{xor_block}
@@ -35,13 +35,13 @@ pub length_flat : (ss : List Registers) → length (flat ss) ≡ 3 * length ss
 length_flat [] = refl
 length_flat (s ∷ ss) = let h = length_flat ss in omega arith
 
-pub sound_threes : (rs : List (List ℕ)) → All Block rs → All Sound (threes rs)
+pub sound_threes : (rs : List (List ℕ)) → AllByRecursion Block rs → AllByRecursion Sound (threes rs)
 sound_threes [] h = tt
 sound_threes (a ∷ []) h = tt
 sound_threes (a ∷ b ∷ []) h = tt
 sound_threes (a ∷ b ∷ c ∷ rs) h = (record { one = h.0; two = h.1.0; three = h.1.1.0 }, sound_threes rs h.1.1.1)
 
-pub blocks_flat : (ss : List Registers) → All Sound ss → All Block (flat ss)
+pub blocks_flat : (ss : List Registers) → AllByRecursion Sound ss → AllByRecursion Block (flat ss)
 blocks_flat [] h = tt
 blocks_flat (s ∷ ss) h = (h.0.one, (h.0.two, (h.0.three, blocks_flat ss h.1)))
 
@@ -52,7 +52,7 @@ only_three (a ∷ b ∷ []) e = absurd (omega arith)
 only_three (a ∷ b ∷ c ∷ []) e = refl
 only_three (a ∷ b ∷ c ∷ d ∷ rs) e = absurd (omega arith)
 
-pub sound_three : (rs : List (List ℕ)) → length rs ≡ 3 → All Block rs → Sound (three rs)
+pub sound_three : (rs : List (List ℕ)) → length rs ≡ 3 → AllByRecursion Block rs → Sound (three rs)
 sound_three [] e h = absurd (omega arith)
 sound_three (a ∷ []) e h = absurd (omega arith)
 sound_three (a ∷ b ∷ []) e h = absurd (omega arith)
@@ -64,7 +64,7 @@ pub sound_xor : (s t : Registers) → Sound s → Sound t → Sound (s ⊞ t)
 unfolding ◌⊞◌
 sound_xor s t k l = record { one = xor_block _ _ k.one l.one; two = xor_block _ _ k.two l.two; three = xor_block _ _ k.three l.three }
 
-pub all_dummy : (n : ℕ) → All Block (replicate n dummy)
+pub all_dummy : (n : ℕ) → AllByRecursion Block (replicate n dummy)
 all_dummy zero = tt
 all_dummy (suc n) = (dummy_block, all_dummy n)
 

@@ -1,6 +1,6 @@
 -- The laws of the modes of three registers.
 use Rattle.std.proofs.Common.{◌≡◌, ℕ, ◌<◌, ◌≤◌, List, [], ◌∷◌, sym, refl, ap, ◌∙◌, arith, length-append}
-use Rattle.std.specs.List.{AllByRecursion as All}
+use Rattle.std.specs.List.{AllByRecursion}
 use Rattle.std.proofs.lemmas.List.{length-take-le}
 use Rattle.aes.specs.Blocks.{Block}
 use Rattle.rounds.specs.Round.{Registers, Sound, Sigma, Undone}
@@ -31,7 +31,7 @@ module _ (c : Sigma) (l : Undone c) (pace : Pace) (far long : ℕ) where
   lifted m [] = refl
   lifted m (b ∷ bs) = lifted (absorb c pace m b) bs
 
-  pub lawful : 0 < pace.cycle → long ≤ 32 → ((p : ℕ) → All Block (pace.own p)) → ((p : ℕ) → gap pace far p ≤ 3) → Lawful rule
+  pub lawful : 0 < pace.cycle → long ≤ 32 → ((p : ℕ) → AllByRecursion Block (pace.own p)) → ((p : ℕ) → gap pace far p ≤ 3) → Lawful rule
   lawful some short blocks near = record {
     starts = some;
     few = λ p h. omega arith;

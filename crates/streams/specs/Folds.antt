@@ -2,7 +2,7 @@
 use Rattle.std.specs.Prelude.{◌≡◌, ℕ, zero, suc, ◌+◌, ◌<◌, ◌≤◌, List, [], ◌∷◌, map, length, get_or, take, set, fold, slice_index_or, slice_set, refl}
 use Rattle.std.proofs.Common.{sym, ap, ◌∙◌, arith, length-set}
 use Rattle.std.proofs.Math.Seq.{take-set-lt}
-use Rattle.std.specs.List.{range_with_len, AllByRecursion as All}
+use Rattle.std.specs.List.{range_with_len, AllByRecursion}
 use Rattle.std.proofs.lemmas.List.{get_or-map, get_or-take, length-take-le, length-map, map-set}
 use Rattle.std.proofs.lemmas.List.Edits.{fill_by_more}
 use Rattle.std.proofs.lemmas.List.FromFn.{fill_by_all}
@@ -51,7 +51,7 @@ shown n ss = map (regs sigma1) (take n ss)
 pub shown_long : (n : ℕ) (ss : List RegisterWords) → n ≤ length ss → length (shown n ss) ≡ n
 shown_long n ss h = length-map (take n ss) (regs sigma1) ∙ length-take-le n ss h
 
-pub shown_sound : (ss : List RegisterWords) → All Sound (map (regs sigma1) ss)
+pub shown_sound : (ss : List RegisterWords) → AllByRecursion Sound (map (regs sigma1) ss)
 shown_sound [] = tt
 shown_sound (s ∷ ss) = (regs_sound sigma1 sigma1_undone s, shown_sound ss)
 

@@ -1,6 +1,6 @@
 -- F of a block, column by column; and the bytes of words are a block.
 use Rattle.std.proofs.Common.{◌≡◌, ℕ, ◌%◌, ◌<◌, List, [], ◌∷◌, ◌++◌, length, get_or, refl, arith}
-use Rattle.std.specs.List.{AllByRecursion as All}
+use Rattle.std.specs.List.{AllByRecursion}
 use Rattle.std.proofs.ByRecursion.{All-get_or}
 use Rattle.aes.specs.Blocks.{block, Block}
 use Rattle.aes.specs.Round.{F, SubBytes, ShiftRows, MixColumns}
@@ -20,7 +20,7 @@ F_columns x = refl
 low : (n : ℕ) → n % 256 < 256
 low n = omega arith
 
-four : (w : ℕ) (xs : List ℕ) → All (λ b. b < 256) xs → All (λ b. b < 256) (le w ++ xs)
+four : (w : ℕ) (xs : List ℕ) → AllByRecursion (λ b. b < 256) xs → AllByRecursion (λ b. b < 256) (le w ++ xs)
 four w xs h = (low _, (low _, (low _, (low _, h))))
 
 pub bytes_block : (x : Words) → Block (bytes x)
