@@ -1,12 +1,12 @@
 // Runs the vectors in data/ and prints, for each group, how many agree. A difference is printed with its line, and ends the program with status 1.
 #![tactic(auto)]
 
+mod messages;
 mod parse;
-mod tags;
 
 use anyhow::anyhow;
+use messages::tag_agrees;
 use std::fs;
-use tags::tag_agrees;
 
 fn run(rt: &HostRuntime, group: &str, file: &str) -> anyhow::Result<()> {
     let text = fs::read_to_string(rt, file)?;

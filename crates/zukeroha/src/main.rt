@@ -16,10 +16,7 @@ mod work;
 use crate::faults::Fault;
 use crate::options::Command;
 use crate::work::Outcome;
-
-// The program ends with status 1; what there is to say has been said.
-#[derive(Drop)]
-struct Failed;
+use std::process::ExitCode;
 
 fn run(rt: &HostRuntime) -> Result<Outcome, Fault> {
     match options::read(rt)? {
@@ -35,13 +32,14 @@ fn run(rt: &HostRuntime) -> Result<Outcome, Fault> {
     }
 }
 
-fn main(rt: HostRuntime) -> Result<(), Failed> {
+// Ends with status 1 where tags differ or something is wrong; what there is to say has been said by then.
+fn main(rt: HostRuntime) -> ExitCode {
     match run(&rt) {
-        Ok(Outcome::Done) => Ok(()),
-        Ok(Outcome::Differs) => Err(Failed),
+        Ok(Outcome::Done) => ExitCode::SUCCESS,
+        Ok(Outcome::Differs) => ExitCode::FAILURE,
         Err(fault) => {
             let _ = eprintln!(rt; "zukeroha: {fault}");
-            Err(Failed)
+            ExitCode::FAILURE
         }
     }
 }
