@@ -2,7 +2,7 @@
 # What the program zukeroha prints, and how it ends, on the built program.
 set -u
 root=$(cd "$(dirname "$0")/../.." && pwd)
-program=$root/target/bin/zukeroha
+program=$root/crates/zukeroha/out/zukeroha
 work=$(mktemp -d)
 trap 'rm -rf "$work"' EXIT
 bad=0

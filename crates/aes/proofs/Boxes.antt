@@ -1,9 +1,8 @@
 -- The two tables, each rule by one computed test at all 256 bytes.
-use Rattle.std.proofs.Common.{◌≡◌, ℕ, zero, suc, ◌<◌, Bool, T, eqb, ltb, get_or, refl, not-suc-le-zero, arith, eqb→eq, leb→le}
+use Rattle.std.proofs.Common.{◌≡◌, ℕ, zero, suc, ◌<◌, T, eqb, ltb, refl, not-suc-le-zero, arith, eqb→eq, leb→le}
 use Rattle.aes.specs.Field.{xtime, ◌•◌, inverse, affine}
-use Rattle.aes.specs.Tables.{sbox, sbox_inv}
-use Rattle.aes.specs.Round.{sub, sub_inv, times3, times9, times11, times13, times14, Multiples, BoxIsPublished, InverseInverts, BoxesUndoEachOther, CoefficientsAreProducts}
-use Rattle.aes.proofs.Sweep.{both, both_left, both_right, up_to, sweep}
+use Rattle.aes.specs.Round.{sub, sub_inv, times3, times9, times11, times13, times14, BoxIsPublished, InverseInverts, BoxesUndoEachOther, CoefficientsAreProducts}
+use Rattle.aes.proofs.Sweep.{up_to, sweep}
 
 -- a test of equality that passes at every byte
 all_equal : (f g : ℕ → ℕ) → T (up_to (λ b. eqb (f b) (g b)) 256) → (b : ℕ) → b < 256 → f b ≡ g b

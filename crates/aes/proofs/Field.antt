@@ -1,5 +1,5 @@
 -- Multiplication by each coefficient is linear over exclusive or, at every number.
-use Rattle.std.proofs.Common.{◌≡◌, ℕ, zero, ◌+◌, ◌*◌, ◌/◌, ◌%◌, ◌^◌, ◌<◌, Bool, T, eqb, ltb, ◌⊎◌, sym, refl, ap, ◌∙◌, ap₂, inl, inr, arith, eqb→eq, leb→le}
+use Rattle.std.proofs.Common.{◌≡◌, ℕ, ◌+◌, ◌*◌, ◌/◌, ◌%◌, ◌^◌, ◌<◌, Bool, T, eqb, ◌⊎◌, sym, refl, ap, ◌∙◌, ap₂, inl, inr, arith, eqb→eq}
 use lib.Bits.{bit_xor, xor_assoc, xor_comm, xor_mod, xor_shr, xor_block, xor_lt, xor_zero_r}
 use Rattle.aes.specs.Field.{xtime}
 use Rattle.aes.specs.Round.{times3, times9, times11, times13, times14, mix, unmix}

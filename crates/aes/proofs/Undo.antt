@@ -1,8 +1,8 @@
 -- F and Finv undo each other on blocks.
-use Rattle.std.proofs.Common.{◌≡◌, ℕ, ◌+◌, ◌*◌, ◌/◌, ◌%◌, ◌<◌, ◌≤◌, Bool, T, eqb, ltb, List, length, get_or, sym, refl, ap, ◌∙◌, subst, arith, eqb→eq, leb→le}
-use Rattle.aes.specs.Blocks.{block, Block}
-use Rattle.aes.specs.Round.{AESR, RoundOneToOne, below, columns, sub, sub_inv, mix, unmix, SubBytes, ShiftRows, MixColumns, F, InvSubBytes, InvShiftRows, InvMixColumns, Finv}
-use Rattle.aes.proofs.Blocks.{length_block, get_or_block, is_block, block_same, block_bytes}
+use Rattle.std.proofs.Common.{◌≡◌, ℕ, ◌+◌, ◌*◌, ◌%◌, ◌<◌, Bool, T, eqb, List, length, get_or, sym, ap, ◌∙◌, arith, eqb→eq}
+use Rattle.aes.specs.Blocks.{Block}
+use Rattle.aes.specs.Round.{RoundOneToOne, below, columns, sub, sub_inv, mix, unmix, SubBytes, ShiftRows, MixColumns, F, InvSubBytes, InvShiftRows, InvMixColumns, Finv}
+use Rattle.aes.proofs.Blocks.{get_or_block, is_block, block_same, block_bytes}
 use Rattle.aes.proofs.Sweep.{both, both_left, both_right, up_to, sweep}
 use Rattle.aes.proofs.Xor.{cancel, cancel_left}
 use Rattle.aes.proofs.Boxes.{sub_inv_sub, sub_sub_inv, sub_lt, sub_inv_lt}

@@ -1,5 +1,5 @@
 -- The exclusive or of four table entries is a column.
-use Rattle.std.proofs.Common.{◌≡◌, ℕ, List, [], ◌∷◌, sym, refl, ap, ◌∙◌}
+use Rattle.std.proofs.Common.{◌≡◌, ℕ, [], ◌∷◌, sym, ap, ◌∙◌}
 use lib.Bits.{bit_xor, xor_assoc, xor_comm}
 use lib.Lanes.{zip2}
 use Rattle.aes.specs.Field.{xtime}

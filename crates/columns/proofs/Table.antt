@@ -1,6 +1,6 @@
 -- A rule of a table, proved at all of its entries by one computed test.
 --
-use Rattle.std.proofs.Common.{◌≡◌, ℕ, zero, suc, ◌+◌, ◌<◌, Bool, true, false, T, List, [], ◌∷◌, map, length, get_or, sym, ◌∙◌, subst, le_of_suc-le-suc, not-suc-le-zero, add-zero, add-suc, suc-add, zero-add}
+use Rattle.std.proofs.Common.{◌≡◌, ℕ, zero, suc, ◌+◌, ◌<◌, Bool, true, T, List, [], ◌∷◌, map, length, get_or, sym, ◌∙◌, subst, le_of_suc-le-suc, not-suc-le-zero, add-zero, add-suc, suc-add, zero-add}
 use lib.Lanes.{number_l}
 use Rattle.std.specs.List.{range_with_len}
 use Rattle.aes.proofs.Sweep.{both, both_left, both_right}

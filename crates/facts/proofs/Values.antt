@@ -1,5 +1,5 @@
 -- The facts, computed.
-use Rattle.std.proofs.Common.{◌≡◌, ℕ, ◌-◌, ◌^◌, ◌<◌, List, [], ◌∷◌, length, get_or, set, Ok, Err, Result, refl, ap, ◌∙◌, arith}
+use Rattle.std.proofs.Common.{◌≡◌, ℕ, ◌-◌, ◌^◌, List, length, get_or, set, Ok, Err, Result, refl, arith}
 use Rattle.std.proofs.lemmas.List.{get_or-set_same}
 use Rattle.refusals.specs.declared.Refusal.{Refusal}
 use Rattle.refusals.specs.Numbers.{Accepted, RefusedWith}
@@ -9,7 +9,7 @@ use Rattle.aes.specs.Round.{sub, times3, mix, SubBytes, ShiftRows, MixColumns, F
 use Rattle.rounds.specs.Round.{round}
 use Rattle.rounds.specs.Mixing.{dummy, dummy_rounds, ◌⊞◌, mixed}
 use Rattle.rounds.specs.Permutations.{pi_1, pi_3/4, pi_1/2}
-use Rattle.smac.specs.Smac.{stream_start, joined, patched}
+use Rattle.smac.specs.Smac.{stream_start, joined}
 use Rattle.counts.specs.declared.state.Ceiling.{Ceiling}
 use Rattle.counts.specs.Ceilings.{CeilingMade}
 use Rattle.facts.specs.Known.{KnownFacts}

@@ -30,7 +30,7 @@ pub data Pieces {S : Type 0} (Step : S → List ℕ → Result (Unit {0}) Refusa
   none : {s : S} → Pieces Step s [] s
   more : {s t u : S} {calls : List Call} (call : Call) → Bytes (piece call) → Step s (piece call) (answer call) t → Pieces Step t calls u → Pieces Step s (call ∷ calls) u
 
--- a run of the mode r from starting registers: begun, Piece, turned, Body-piece and closed are what the five calls promise
+-- a run of the mode r from starting registers: begun, Piece, turned, BodyPiece and closed are what the five calls promise
 pub record Run (r : Rule) (regs : List (List ℕ)) (ceiling : ℕ) (header body : List Call) (end : Closed) : Type 0 where
   pub countable : ceiling < 2 ^ 61
   pub headed : Open

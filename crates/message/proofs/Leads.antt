@@ -6,7 +6,7 @@ use Rattle.mode.proofs.States.{absorbed_append, absorbed_place}
 use Rattle.tags.specs.declared.state.Verdict.{Verdict}
 use Rattle.tags.specs.Tags.{Closed, Tagged, Compared}
 use Rattle.message.specs.Framing.{flushed, padded, length_block, framed, message, zero_block}
-use Rattle.message.specs.Feeding.{Fed, fed, fed_of, flush, filled}
+use Rattle.message.specs.Feeding.{fed, fed_of, flush, filled}
 use Rattle.message.specs.Whole.{Countable, MessageTagged, MessageCompared}
 use Rattle.message.proofs.Feedings.{fed_cut}
 

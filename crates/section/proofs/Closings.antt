@@ -1,5 +1,5 @@
 -- A run over header and ciphertext closes where the section's tag is taken.
-use Rattle.std.proofs.Common.{◌≡◌, ℕ, ◌^◌, ◌<◌, List, [], ◌∷◌, length, take, Ok, sym, refl, ap, ◌∙◌, subst, ap₂, append-nil, arith}
+use Rattle.std.proofs.Common.{◌≡◌, ℕ, ◌^◌, ◌<◌, List, [], ◌∷◌, length, Ok, ap, ◌∙◌, subst, ap₂, append-nil, arith}
 use Rattle.std.proofs.lemmas.List.{take-take}
 use Rattle.aes.specs.Blocks.{Bytes}
 use Rattle.mode.specs.Rules.{at_first, absorbed}

@@ -1,20 +1,19 @@
 -- The law of sections.
-use Rattle.std.proofs.Common.{◌≡◌, ℕ, zero, suc, ◌+◌, ◌<◌, List, [], ◌∷◌, ◌++◌, length, Ok, Err, Result, sym, refl, ap, ◌∙◌, inl, inr, arith, length-append}
+use Rattle.std.proofs.Common.{◌≡◌, ℕ, zero, suc, ◌+◌, List, [], ◌∷◌, length, Ok, Err, Result, sym, refl, ap, ◌∙◌, inl, inr, arith, length-append}
 use lib.Bits.{xor_lt}
 use Rattle.std.specs.List.{AllByRecursion}
 use Rattle.refusals.specs.declared.Refusal.{Refusal}
 use Rattle.aes.specs.Blocks.{Bytes, Block}
-use Rattle.mode.specs.Rules.{Good, Key, at_first, absorbed, retraced}
+use Rattle.mode.specs.Rules.{Key, at_first, absorbed, retraced}
 use Rattle.mode.proofs.States.{same_state, retraced_absorbed, absorbed_place}
 use Rattle.smac.specs.Smac.{smac1}
 use Rattle.smac.proofs.Singles.{whole}
-use Rattle.message.specs.Framing.{message}
 use Rattle.message.proofs.Blocks.{message_blocks}
 use Rattle.message.proofs.Frames.{Sizes}
 use Rattle.laws.proofs.Telling.{messages_told}
 use Rattle.keystream.specs.Keystream.{OfBlocks, keystream}
 use Rattle.keystream.specs.Words.{keystream_blocks}
-use Rattle.section.specs.Sections.{masked_from, masked, section_registers, closing_state, closing_registers, section_tag, section}
+use Rattle.section.specs.Sections.{masked_from, masked, section_registers, closing_state, closing_registers, section_tag}
 use Rattle.section.specs.Calls.{Opened}
 use Rattle.section.proofs.Masks.{length_masked, masked_twice}
 use Rattle.section.proofs.Splits.{cut_once, registers_good, tag_long}

@@ -1,5 +1,5 @@
 -- The four modes are lawful.
-use Rattle.std.proofs.Common.{ℕ, refl}
+use Rattle.std.proofs.Common.{refl}
 use Rattle.mode.specs.Rules.{Rule, Lawful}
 use Rattle.smac.specs.Laws.{Smac, whole, three_quarters, half, streams, ModesAreLawful}
 use Rattle.smac.proofs.Singles as singles

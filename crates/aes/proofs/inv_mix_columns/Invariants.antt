@@ -1,4 +1,4 @@
-use Rattle.std.proofs.Common.{◌*◌, ◌%◌, get_or}
+use Rattle.std.proofs.Common.{get_or}
 use Rattle.aes.specs.Round.{unmix, below}
 use Rattle.aes.proofs.Blocks.{Filled}
 use Rattle.aes.proofs.inv_mix_columns.Given as goal

@@ -1,4 +1,4 @@
-use Rattle.std.proofs.Common.{◌*◌, ◌%◌, get_or}
+use Rattle.std.proofs.Common.{get_or}
 use Rattle.aes.specs.Round.{sub_inv}
 use Rattle.aes.proofs.Blocks.{Filled}
 use Rattle.aes.proofs.inv_sub_bytes.Given as goal

@@ -1,7 +1,7 @@
-use Rattle.std.proofs.Common.{◌≡◌, ℕ, ◌/◌, List, [], ◌∷◌, length, get_or, take, drop, sym, refl, ap, ◌∙◌, arith, length-drop, rules}
+use Rattle.std.proofs.Common.{◌≡◌, ℕ, ◌/◌, List, [], ◌∷◌, length, get_or, take, drop, ap, ◌∙◌, arith, length-drop, rules}
 use Rattle.std.specs.Simd.{first_chunks}
 use Rattle.std.proofs.lemmas.List.{take_all}
-use Rattle.aes.specs.Blocks.{Block, moved}
+use Rattle.aes.specs.Blocks.{moved}
 use Rattle.aes.proofs.Moved.{moved_there}
 use Rattle.rounds.proofs.Round.{same}
 use Rattle.words.specs.Words.{bytes}

@@ -1,5 +1,4 @@
-use Rattle.std.proofs.Common.{◌≡◌, ℕ, List, sym, ap, ◌∙◌, ap₂}
-use Rattle.aes.specs.Blocks.{Block, ◌⊕◌, moved}
+use Rattle.aes.specs.Blocks.{Block, ◌⊕◌}
 use Rattle.aes.specs.Round.{Finv}
 use Rattle.aes.proofs.Undo.{Finv_block}
 use Rattle.aes.proofs.Xor.{xor_block}

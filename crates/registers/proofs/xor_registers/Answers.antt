@@ -1,4 +1,4 @@
-use Rattle.std.proofs.Common.{◌≡◌, sym, refl, ◌∙◌}
+use Rattle.std.proofs.Common.{sym, ◌∙◌}
 use Rattle.aes.proofs.Moved.{moved_xor}
 use Rattle.rounds.specs.Mixing.{◌⊞◌}
 use Rattle.words.specs.Words.{bytes}

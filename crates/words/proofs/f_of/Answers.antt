@@ -1,5 +1,4 @@
-use Rattle.std.proofs.Common.{◌≡◌, sym, ◌∙◌}
-use Rattle.columns.specs.Columns.{le}
+use Rattle.std.proofs.Common.{sym, ◌∙◌}
 use Rattle.words.specs.Words.{bytes}
 use Rattle.words.proofs.Join.{join4}
 use Rattle.words.proofs.Columns.{F_columns}

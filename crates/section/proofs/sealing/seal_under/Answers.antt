@@ -1,6 +1,6 @@
-use Rattle.std.proofs.Common.{◌≡◌, ℕ, ◌+◌, ◌-◌, ◌≤◌, List, ◌++◌, length, take, drop, ap, ◌∙◌, ap₂, arith, rules}
-use Rattle.std.proofs.lemmas.List.{take_at, length-append, length-drop}
-use Rattle.section.specs.Sections.{masked, section_tag}
+use Rattle.std.proofs.Common.{◌≡◌, ℕ, ◌-◌, ◌++◌, length, take, drop, ap, ◌∙◌, ap₂, arith, rules}
+use Rattle.std.proofs.lemmas.List.{take_at}
+use Rattle.section.specs.Sections.{section_tag}
 use Rattle.section.proofs.Masks.{length_masked}
 use Rattle.section.proofs.Splits.{behind_front}
 use Rattle.section.proofs.sealing.seal_under.Goals as goal

@@ -1,6 +1,6 @@
 use Rattle.smac.specs.Smac.{smac1}
 use Rattle.singles.specs.States.{state1}
-use Rattle.run.specs.Calls.{header_of, body_of, closed_of}
+use Rattle.run.specs.Calls.{header_of, body_of}
 use Rattle.section.proofs.Closings.{closes}
 use Rattle.section.proofs.tagging.closing.Goals as goal
 

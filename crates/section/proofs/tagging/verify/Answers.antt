@@ -1,6 +1,5 @@
-use Rattle.std.proofs.Common.{◌≡◌, ℕ, List, refl, subst}
+use Rattle.std.proofs.Common.{◌≡◌, refl, subst}
 use Rattle.tags.specs.declared.state.Verdict.{Verdict}
-use Rattle.tags.specs.declared.state.Verdict.TheVariants.{Same, Differs}
 use Rattle.tags.specs.Tags.{Says}
 use Rattle.section.specs.Sections.{section_tag}
 use Rattle.section.proofs.Closings.{tag_judged}
