@@ -21,7 +21,8 @@ OTHERS = {"subInv": "sub_inv", "sboxInv": "sbox_inv", "sub-subInv": "sub_sub_inv
           "getD-block": "get_or_block", "getD-cut": "get_or_cut", "getD-xor": "get_or_xor", "getD_part": "get_or_part",
           "patchedOf": "patched_of", "joinedOf": "joined_of", "movedBy": "moved_by", "mixedOf": "mixed_of", "keyedOf": "keyed_of", "dummyOf": "dummy_of",
           "dummyRounds": "dummy_rounds_of", "nextByteOf": "next_byte_of", "columnOf": "column_of", "tempOf": "temp_of", "rconOf": "rcon_of",
-          "same-blocks?": "same_blocks_or_not", "all-below": "below_all"}
+          "same-blocks?": "same_blocks_or_not", "all-below": "below_all",
+          "header-answers": "header_answers", "body-answers": "body_answers", "part-long": "part_long", "zero-place": "zero_place", "end-place": "end_place", "tail-short": "tail_short"}
 
 
 def files(root, ending):

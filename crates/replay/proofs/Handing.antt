@@ -49,10 +49,10 @@ module _ {S : Type 0} (Step : S → List ℕ → Result (Unit {0}) Refusal → S
   hand_all s t ps i answers h handed = subst (λ (qs : List (Bor (List ℕ))). Handed s (map (λ x. x.now) qs) answers t) (take_all i ps h) handed
 
 -- the calls of a run, put together
-pub performs : (r : Rule) (regs : List (List ℕ)) (ceiling : ℕ) (header body : List (List ℕ)) (header-answers body-answers : List Answer) (first headed : Open) (turning bodied : OpenBody) (end : Closed) →
-    Lawful r → Good r (at_first regs) → ceiling < 2 ^ 61 → first ≡ begun r (at_first regs) ceiling → Handed Piece first header header-answers headed → turning ≡ turned headed
-    → Handed BodyPiece turning body body-answers bodied → end ≡ closed bodied → Replays r regs ceiling header body header-answers body-answers end
-performs r regs ceiling header body header-answers body-answers first headed turning bodied end law good countable eb h et b ec =
+pub performs : (r : Rule) (regs : List (List ℕ)) (ceiling : ℕ) (header body : List (List ℕ)) (header_answers body_answers : List Answer) (first headed : Open) (turning bodied : OpenBody) (end : Closed) →
+    Lawful r → Good r (at_first regs) → ceiling < 2 ^ 61 → first ≡ begun r (at_first regs) ceiling → Handed Piece first header header_answers headed → turning ≡ turned headed
+    → Handed BodyPiece turning body body_answers bodied → end ≡ closed bodied → Replays r regs ceiling header body header_answers body_answers end
+performs r regs ceiling header body header_answers body_answers first headed turning bodied end law good countable eb h et b ec =
     let run : Run r regs ceiling h.0 b.0 end = record {
       countable = countable;
       headed = headed;

@@ -27,13 +27,13 @@ pub data Answered : List (List ℕ) → List Answer → List Call → Type 0 whe
   more : {pieces : List (List ℕ)} {answers : List Answer} {calls : List Call} (p : List ℕ) (a : Answer) → Answered pieces answers calls → Answered (p ∷ pieces) (a ∷ answers) (call p a ∷ calls)
 
 -- what a replay did: calls that are these pieces with these answers, a run of them, and what holds of it
-pub record Replays (r : Rule) (regs : List (List ℕ)) (ceiling : ℕ) (header body : List (List ℕ)) (header-answers body-answers : List Answer) (end : Closed) : Type 0 where
+pub record Replays (r : Rule) (regs : List (List ℕ)) (ceiling : ℕ) (header body : List (List ℕ)) (header_answers body_answers : List Answer) (end : Closed) : Type 0 where
   pub lawful : Lawful r
   pub starts : Good r (at_first regs)
   pub header_calls : List Call
   pub body_calls : List Call
-  pub header_answered : Answered header header-answers header_calls
-  pub body_answered : Answered body body-answers body_calls
+  pub header_answered : Answered header header_answers header_calls
+  pub body_answered : Answered body body_answers body_calls
   pub run : Run r regs ceiling header_calls body_calls end
   pub stands : Stands r regs ceiling header_calls body_calls end (message r (accepted header_calls) (accepted body_calls))
 

@@ -72,14 +72,14 @@ module _ (z : ℕ → List ℕ) where
       let next : 16 * (j + 1) ≡ a + 16 = omega arith in
       let left : 16 ≤ length (drop a input) = simp length-drop (omega arith) in
       let long : length block ≡ 16 = ap length eb ∙ length-take-le 16 (drop a input) left in
-      let part-long : length part ≡ 16 = ap length ep ∙ length_cut block w (omega arith) ∙ long in
+      let part_long : length part ≡ 16 = ap length ep ∙ length_cut block w (omega arith) ∙ long in
       let split : drop a input ≡ block ++ rest =
       sym (take-append-drop 16 (drop a input)) ∙ ap₂ ◌++◌ (sym eb) (drop-drop 16 a input) in
-      let zero-place : a ≡ a + 0 = omega arith in
-      let end-place : a + (0 + length block) ≡ a + 16 = omega arith in
+      let zero_place : a ≡ a + 0 = omega arith in
+      let end_place : a + (0 + length block) ≡ a + 16 = omega arith in
       let one : masked_from z a (drop a input) ≡ part ++ masked_from z (a + 16) rest =
-      ap (masked_from z a) split ∙ ap (λ (i : ℕ). masked_from z i (block ++ rest)) zero-place
-      ∙ within_block j 0 block rest (omega arith) n ∙ ap₂ (λ p (i : ℕ). p ++ masked_from z i rest) (sym ep) end-place in
+      ap (masked_from z a) split ∙ ap (λ (i : ℕ). masked_from z i (block ++ rest)) zero_place
+      ∙ within_block j 0 block rest (omega arith) n ∙ ap₂ (λ p (i : ℕ). p ++ masked_from z i rest) (sym ep) end_place in
       let front : take (a + 16) (put_mid a k out part) ≡ take a out ++ part = take-put_mid a k out part (a + 16) (omega arith) (omega arith) in
       ap (λ (i : ℕ). take i (put_mid a k out part) ++ masked_from z i (drop i input)) next
       ∙ ap (λ (f : List ℕ). f ++ masked_from z (a + 16) rest) front
@@ -94,10 +94,10 @@ module _ (z : ℕ → List ℕ) where
   mask_end input out tail part j k h l m n et ep inv =
       let a : ℕ = 16 * j in
       let short : length (drop a input) < 16 = simp length-drop (omega arith) in
-      let tail-short : length tail ≤ 16 = omega (arith, ap length et) in
-      let zero-place : a ≡ a + 0 = omega arith in
+      let tail_short : length tail ≤ 16 = omega (arith, ap length et) in
+      let zero_place : a ≡ a + 0 = omega arith in
       let past : drop k (drop a out) ≡ [] = drop-drop k a out ∙ drop_all (a + k) out m in
       let one : masked_from z a (drop a input) ≡ part ++ [] =
-      ap (masked_from z a) (sym et ∙ sym (append-nil tail)) ∙ ap (λ (i : ℕ). masked_from z i (tail ++ [])) zero-place
+      ap (masked_from z a) (sym et ∙ sym (append-nil tail)) ∙ ap (λ (i : ℕ). masked_from z i (tail ++ [])) zero_place
       ∙ within_block j 0 tail [] (omega arith) n ∙ ap (λ p. p ++ []) (sym ep) in
       ap (λ (t : List ℕ). take a out ++ (part ++ t)) past ∙ ap (λ (t : List ℕ). take a out ++ t) (sym one) ∙ inv
