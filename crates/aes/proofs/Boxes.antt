@@ -1,7 +1,7 @@
 -- The two tables, each rule by one computed test at all 256 bytes.
 use Rattle.std.proofs.Common.{◌≡◌, ℕ, zero, suc, ◌<◌, T, eqb, ltb, refl, not-suc-le-zero, arith, eqb→eq, leb→le}
 use Rattle.aes.specs.Field.{xtime, ◌•◌, inverse, affine}
-use Rattle.aes.specs.Round.{sub, sub_inv, times3, times9, times11, times13, times14, BoxIsPublished, InverseInverts, BoxesUndoEachOther, CoefficientsAreProducts}
+use Rattle.aes.specs.Round.{sub, sub_inv, times3, times, BoxIsPublished, InverseInverts, BoxesUndoEachOther, CoefficientsAreProducts}
 use Rattle.aes.proofs.Sweep.{up_to, sweep}
 
 -- a test of equality that passes at every byte
@@ -43,12 +43,9 @@ inverse_inverts = (refl, at)
     at (suc k) h l = eqb→eq _ _ (sweep (λ n. eqb (suc n • inverse (suc n)) 1) 255 tt k (omega arith))
 
 pub coefficients : CoefficientsAreProducts
-unfolding xtime ◌•◌ times3 times9 times11 times13 times14
+unfolding xtime ◌•◌ times3 times
 coefficients b h = record {
   by2 = all_equal xtime (λ c. 2 • c) tt b h;
   by3 = all_equal times3 (λ c. 3 • c) tt b h;
-  by9 = all_equal times9 (λ c. 9 • c) tt b h;
-  by11 = all_equal times11 (λ c. 11 • c) tt b h;
-  by13 = all_equal times13 (λ c. 13 • c) tt b h;
-  by14 = all_equal times14 (λ c. 14 • c) tt b h;
+  by = λ c l. all_equal (times c) (λ b. c • b) (sweep (λ c. up_to (λ b. eqb (times c b) (c • b)) 256) 16 tt c l) b h;
 }

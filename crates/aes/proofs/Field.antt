@@ -1,8 +1,8 @@
 -- Multiplication by each coefficient is linear over exclusive or, at every number.
-use Rattle.std.proofs.Common.{◌≡◌, ℕ, ◌+◌, ◌*◌, ◌/◌, ◌%◌, ◌^◌, ◌<◌, Bool, T, eqb, ◌⊎◌, sym, refl, ap, ◌∙◌, ap₂, inl, inr, arith, eqb→eq}
+use Rattle.std.proofs.Common.{◌≡◌, ℕ, zero, suc, ◌+◌, ◌*◌, ◌/◌, ◌%◌, ◌^◌, ◌<◌, Bool, T, eqb, ◌⊎◌, sym, refl, ap, ◌∙◌, ap₂, inl, inr, arith, eqb→eq, zero-mul, one-mul}
 use lib.Bits.{bit_xor, xor_assoc, xor_comm, xor_mod, xor_shr, xor_block, xor_lt, xor_zero_r}
-use Rattle.aes.specs.Field.{xtime}
-use Rattle.aes.specs.Round.{times3, times9, times11, times13, times14, mix, unmix}
+use Rattle.aes.specs.Field.{xtime, product}
+use Rattle.aes.specs.Round.{times3, times, mix, unmix}
 use Rattle.aes.proofs.Sweep.{both, both_left, both_right, up_to, sweep}
 
 -- two pairs, by rows or by columns
@@ -45,42 +45,29 @@ Linear f = (a b : ℕ) → f (bit_xor a b) ≡ bit_xor (f a) (f b)
 sum_linear : (f g : ℕ → ℕ) → Linear f → Linear g → Linear (λ x. bit_xor (f x) (g x))
 sum_linear f g p q a b = ap₂ bit_xor (p a b) (q a b) ∙ swap_middle (f a) (f b) (g a) (g b)
 
-after_linear : (f g : ℕ → ℕ) → Linear f → Linear g → Linear (λ x. f (g x))
-after_linear f g p q a b = ap f (q a b) ∙ p (g a) (g b)
-
 id_linear : Linear (λ x. x)
 id_linear a b = refl
-
-two : Linear (λ x. xtime (xtime x))
-two = after_linear xtime xtime xtime_xor xtime_xor
-
-three : Linear (λ x. xtime (xtime (xtime x)))
-three = after_linear xtime (λ x. xtime (xtime x)) xtime_xor two
 
 pub times3_xor : Linear times3
 unfolding times3
 times3_xor = sum_linear xtime (λ x. x) xtime_xor id_linear
 
-pub times9_xor : Linear times9
-unfolding times9
-times9_xor = sum_linear (λ x. xtime (xtime (xtime x))) (λ x. x) three id_linear
+bit_linear : (m : ℕ) → Linear (λ x. m % 2 * x)
+bit_linear m a b =
+    elim (bit (m % 2) (omega arith)) [
+      | inl e ↦ rw (e, zero-mul (bit_xor a b), zero-mul a, zero-mul b) refl
+      | inr e ↦ rw (e, one-mul (bit_xor a b), one-mul a, one-mul b) refl
+    ]
 
-pub times11_xor : Linear times11
-unfolding times11
-times11_xor =
-    sum_linear (λ x. xtime (xtime (xtime x))) (λ x. bit_xor (xtime x) x) three (sum_linear xtime (λ x. x) xtime_xor id_linear)
+product_linear : (n c : ℕ) → Linear (λ x. product n x c)
+product_linear zero c a b = refl
+product_linear (suc n) c a b =
+    ap₂ bit_xor (bit_linear c a b) (ap (λ (x : ℕ). product n x (c / 2)) (xtime_xor a b) ∙ product_linear n (c / 2) (xtime a) (xtime b))
+    ∙ swap_middle (c % 2 * a) (c % 2 * b) (product n (xtime a) (c / 2)) (product n (xtime b) (c / 2))
 
-pub times13_xor : Linear times13
-unfolding times13
-times13_xor =
-    sum_linear (λ x. xtime (xtime (xtime x))) (λ x. bit_xor (xtime (xtime x)) x) three
-    (sum_linear (λ x. xtime (xtime x)) (λ x. x) two id_linear)
-
-pub times14_xor : Linear times14
-unfolding times14
-times14_xor =
-    sum_linear (λ x. xtime (xtime (xtime x))) (λ x. bit_xor (xtime (xtime x)) (xtime x)) three
-    (sum_linear (λ x. xtime (xtime x)) xtime two xtime_xor)
+pub times_xor : (c : ℕ) → Linear (times c)
+unfolding times
+times_xor c = product_linear 4 c
 
 -- the same of a function of a column
 abbrev pub Linear4 : (ℕ → ℕ → ℕ → ℕ → ℕ) → Type 0
@@ -99,7 +86,7 @@ mix_xor = four xtime times3 (λ x. x) (λ x. x) xtime_xor times3_xor id_linear i
 
 pub unmix_xor : Linear4 unmix
 unfolding unmix
-unmix_xor = four times14 times11 times13 times9 times14_xor times11_xor times13_xor times9_xor
+unmix_xor = four (times 14) (times 11) (times 13) (times 9) (times_xor 14) (times_xor 11) (times_xor 13) (times_xor 9)
 
 -- one map of a column after another, at the first row
 abbrev pub around : (f g : ℕ → ℕ → ℕ → ℕ → ℕ) → ℕ → ℕ → ℕ → ℕ → ℕ
@@ -132,11 +119,11 @@ first f p t a b c d ha hb hc hd =
     z0 ∙ s0 ∙ ap₂ bit_xor e0 r1 ∙ xor_zero_r a
 
 pub unmix_mix : (a b c d : ℕ) → a < 256 → b < 256 → c < 256 → d < 256 → around unmix mix a b c d ≡ a
-unfolding xtime times3 times9 times11 times13 times14 mix unmix
+unfolding xtime times3 times mix unmix
 unmix_mix = first (around unmix mix) (around_xor unmix mix unmix_xor mix_xor) tt
 
 pub mix_unmix : (a b c d : ℕ) → a < 256 → b < 256 → c < 256 → d < 256 → around mix unmix a b c d ≡ a
-unfolding xtime times3 times9 times11 times13 times14 mix unmix
+unfolding xtime times3 times mix unmix
 mix_unmix = first (around mix unmix) (around_xor mix unmix mix_xor unmix_xor) tt
 
 -- ---- bytes stay bytes
@@ -156,9 +143,18 @@ pub mix_lt : (a b c d : ℕ) → a < 256 → b < 256 → c < 256 → d < 256 →
 unfolding mix
 mix_lt a b c d p q r s = xor_byte _ _ (xor_byte _ _ (xtime_lt a) (times3_lt b q)) (xor_byte _ _ r s)
 
+-- a bit times a byte
+bit_lt : (m b : ℕ) → b < 256 → m % 2 * b < 256
+bit_lt m b h = elim (bit (m % 2) (omega arith)) [ inl e ↦ rw e (omega arith) | inr e ↦ rw e (omega arith) ]
+
+product_lt : (n b c : ℕ) → b < 256 → product n b c < 256
+product_lt zero b c h = omega arith
+product_lt (suc n) b c h = xor_byte _ _ (bit_lt c b h) (product_lt n (xtime b) (c / 2) (xtime_lt b))
+
+times_lt : (c b : ℕ) → b < 256 → times c b < 256
+unfolding times
+times_lt c b h = product_lt 4 b c h
+
 pub unmix_lt : (a b c d : ℕ) → a < 256 → b < 256 → c < 256 → d < 256 → unmix a b c d < 256
-unfolding unmix times9 times11 times13 times14
-unmix_lt a b c d p q r s =
-    xor_byte _ _
-    (xor_byte _ _ (xor_byte _ _ (xtime_lt _) (xor_byte _ _ (xtime_lt _) (xtime_lt a))) (xor_byte _ _ (xtime_lt _) (xor_byte _ _ (xtime_lt b) q)))
-    (xor_byte _ _ (xor_byte _ _ (xtime_lt _) (xor_byte _ _ (xtime_lt _) r)) (xor_byte _ _ (xtime_lt _) s))
+unfolding unmix
+unmix_lt a b c d p q r s = xor_byte _ _ (xor_byte _ _ (times_lt 14 a p) (times_lt 11 b q)) (xor_byte _ _ (times_lt 13 c r) (times_lt 9 d s))

@@ -1,43 +1,42 @@
 -- F and Finv undo each other on blocks.
 use Rattle.std.proofs.Common.{◌≡◌, ℕ, ◌+◌, ◌*◌, ◌%◌, ◌<◌, Bool, T, eqb, List, length, get_or, sym, ap, ◌∙◌, arith, eqb→eq}
 use Rattle.aes.specs.Blocks.{Block}
-use Rattle.aes.specs.Round.{RoundOneToOne, below, columns, sub, sub_inv, mix, unmix, SubBytes, ShiftRows, MixColumns, F, InvSubBytes, InvShiftRows, InvMixColumns, Finv}
+use Rattle.aes.specs.Round.{RoundOneToOne, below, columns, each, spread, sub, sub_inv, mix, unmix, SubBytes, ShiftRows, MixColumns, F, InvSubBytes, InvShiftRows, InvMixColumns, Finv}
 use Rattle.aes.proofs.Blocks.{get_or_block, is_block, block_same, block_bytes}
-use Rattle.aes.proofs.Sweep.{both, both_left, both_right, up_to, sweep}
+use Rattle.aes.proofs.Sweep.{up_to, sweep}
 use Rattle.aes.proofs.Xor.{cancel, cancel_left}
 use Rattle.aes.proofs.Boxes.{sub_inv_sub, sub_sub_inv, sub_lt, sub_inv_lt}
 use Rattle.aes.proofs.Field.{unmix_mix, mix_unmix, mix_lt, unmix_lt, around}
 
+each_each : (f g : ℕ → ℕ) → ((b : ℕ) → b < 256 → f (g b) ≡ b) → (x : List ℕ) → Block x → each f (each g x) ≡ x
+each_each f g e x b =
+    sym (is_block _ x b.len (λ k h. sym (ap f (get_or_block (λ i. g (get_or x i 0)) k h) ∙ e (get_or x k 0) (b.bytes k))))
+
 pub InvSub_Sub : (x : List ℕ) → Block x → InvSubBytes (SubBytes x) ≡ x
 unfolding SubBytes InvSubBytes
-InvSub_Sub x b =
-    sym (is_block _ x b.len (λ k h. sym (ap sub_inv (get_or_block (λ i. sub (get_or x i 0)) k h) ∙ sub_inv_sub (get_or x k 0) (b.bytes k))))
+InvSub_Sub = each_each sub_inv sub sub_inv_sub
 
 pub Sub_InvSub : (x : List ℕ) → Block x → SubBytes (InvSubBytes x) ≡ x
 unfolding SubBytes InvSubBytes
-Sub_InvSub x b =
-    sym (is_block _ x b.len (λ k h. sym (ap sub (get_or_block (λ i. sub_inv (get_or x i 0)) k h) ∙ sub_sub_inv (get_or x k 0) (b.bytes k))))
+Sub_InvSub = each_each sub sub_inv sub_sub_inv
 
 -- the two shifts undo each other at each place, and steps down a column add up
-abbrev places : ℕ → Bool
-places k = both (eqb (5 * (13 * k % 16) % 16) k) (eqb (13 * (5 * k % 16) % 16) k)
+abbrev home : ℕ → ℕ → ℕ → Bool
+home m n k = eqb (n * (m * k % 16) % 16) k
 
-there : (k : ℕ) → k < 16 → T (places k)
-there = sweep places 16 tt
+spread_spread : (m n : ℕ) → T (up_to (home m n) 16) → (x : List ℕ) → length x ≡ 16 → spread m (spread n x) ≡ x
+spread_spread m n t x long =
+    sym (is_block _ x long (λ k h.
+    let e : n * (m * k % 16) % 16 ≡ k = eqb→eq _ _ (sweep (home m n) 16 t k h) in
+    sym (get_or_block (λ i. get_or x (n * i % 16) 0) (m * k % 16) (omega arith) ∙ ap (λ (i : ℕ). get_or x i 0) e)))
 
 pub InvShift_Shift : (x : List ℕ) → length x ≡ 16 → InvShiftRows (ShiftRows x) ≡ x
 unfolding ShiftRows InvShiftRows
-InvShift_Shift x n =
-    sym (is_block _ x n (λ k h.
-    let e : 5 * (13 * k % 16) % 16 ≡ k = eqb→eq _ _ (both_left (eqb (5 * (13 * k % 16) % 16) k) _ (there k h)) in
-    sym (get_or_block (λ i. get_or x (5 * i % 16) 0) (13 * k % 16) (omega arith) ∙ ap (λ (i : ℕ). get_or x i 0) e)))
+InvShift_Shift = spread_spread 13 5 tt
 
 pub Shift_InvShift : (x : List ℕ) → length x ≡ 16 → ShiftRows (InvShiftRows x) ≡ x
 unfolding ShiftRows InvShiftRows
-Shift_InvShift x n =
-    sym (is_block _ x n (λ k h.
-    let e : 13 * (5 * k % 16) % 16 ≡ k = eqb→eq _ _ (both_right (eqb (5 * (13 * k % 16) % 16) k) _ (there k h)) in
-    sym (get_or_block (λ i. get_or x (13 * i % 16) 0) (5 * k % 16) (omega arith) ∙ ap (λ (i : ℕ). get_or x i 0) e)))
+Shift_InvShift = spread_spread 5 13 tt
 
 abbrev adds : ℕ → ℕ → ℕ → Bool
 adds m n k = eqb (below m (below n k)) (below ((m + n) % 4) k)

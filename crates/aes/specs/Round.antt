@@ -1,7 +1,7 @@
 -- The steps of an AES round on blocks; byte 4c + r of a block stands in row r and column c.
 use Rattle.std.specs.Prelude.{◌≡◌, ℕ, ◌+◌, ◌*◌, ◌/◌, ◌%◌, ◌<◌, List, bit_xor, slice_index}
 use Rattle.aes.specs.Blocks.{Block, block, ◌⊕◌}
-use Rattle.aes.specs.Field.{xtime, ◌•◌, inverse, affine}
+use Rattle.aes.specs.Field.{xtime, product, ◌•◌, inverse, affine}
 use Rattle.aes.specs.Tables.{sbox, sbox_inv}
 
 -- the S-box and its inverse
@@ -11,43 +11,46 @@ sub b = slice_index sbox b
 unfoldable pub sub_inv : ℕ → ℕ
 sub_inv b = slice_index sbox_inv b
 
--- products with the coefficients of MixColumns and its inverse, by doubling
+-- products with the coefficients of MixColumns and its inverse, by doubling: 3, and any coefficient below 16
 unfoldable pub times3 : ℕ → ℕ
 times3 b = bit_xor (xtime b) b
 
-unfoldable pub times9 : ℕ → ℕ
-times9 b = bit_xor (xtime (xtime (xtime b))) b
-
-unfoldable pub times11 : ℕ → ℕ
-times11 b = bit_xor (xtime (xtime (xtime b))) (bit_xor (xtime b) b)
-
-unfoldable pub times13 : ℕ → ℕ
-times13 b = bit_xor (xtime (xtime (xtime b))) (bit_xor (xtime (xtime b)) b)
-
-unfoldable pub times14 : ℕ → ℕ
-times14 b = bit_xor (xtime (xtime (xtime b))) (bit_xor (xtime (xtime b)) (xtime b))
+unfoldable pub times : ℕ → ℕ → ℕ
+times c b = product 4 b c
 
 -- one byte of a mixed column, from the byte in its own row and those in the three rows below it, counted round
 unfoldable pub mix : ℕ → ℕ → ℕ → ℕ → ℕ
 mix a b c d = bit_xor (bit_xor (xtime a) (times3 b)) (bit_xor c d)
 
 unfoldable pub unmix : ℕ → ℕ → ℕ → ℕ → ℕ
-unmix a b c d = bit_xor (bit_xor (times14 a) (times11 b)) (bit_xor (times13 c) (times9 d))
+unmix a b c d = bit_xor (bit_xor (times 14 a) (times 11 b)) (bit_xor (times 13 c) (times 9 d))
 
 -- the place k rows below place i, in the same column
 abbrev pub below : ℕ → ℕ → ℕ
 below k i = i / 4 * 4 + (i + k) % 4
 
+-- f of the four bytes of the column of place i, beginning at its own row
+abbrev pub at_place : (ℕ → ℕ → ℕ → ℕ → ℕ) → List ℕ → ℕ → ℕ
+at_place f x i = f (slice_index x i) (slice_index x (below 1 i)) (slice_index x (below 2 i)) (slice_index x (below 3 i))
+
 -- each byte is f of the four bytes of its column, beginning at its own row
 abbrev pub columns : (ℕ → ℕ → ℕ → ℕ → ℕ) → List ℕ → List ℕ
-columns f x = block (λ i. f (slice_index x i) (slice_index x (below 1 i)) (slice_index x (below 2 i)) (slice_index x (below 3 i)))
+columns f x = block (λ i. at_place f x i)
+
+-- each byte is f of the byte in its place
+abbrev pub each : (ℕ → ℕ) → List ℕ → List ℕ
+each f x = block (λ i. f (slice_index x i))
+
+-- each place takes the byte at n times its own place, modulo 16
+abbrev pub spread : ℕ → List ℕ → List ℕ
+spread n x = block (λ i. slice_index x (n * i % 16))
 
 unfoldable pub SubBytes : List ℕ → List ℕ
-SubBytes x = block (λ i. sub (slice_index x i))
+SubBytes x = each sub x
 
 -- row r moves r columns to the left: place 4c + r takes the byte at 4(c + r) + r, which is 5 times its own place, modulo 16
 unfoldable pub ShiftRows : List ℕ → List ℕ
-ShiftRows x = block (λ i. slice_index x (5 * i % 16))
+ShiftRows x = spread 5 x
 
 unfoldable pub MixColumns : List ℕ → List ℕ
 MixColumns x = columns mix x
@@ -61,11 +64,11 @@ abbrev pub AESR : List ℕ → List ℕ → List ℕ
 AESR x k = F x ⊕ k
 
 unfoldable pub InvSubBytes : List ℕ → List ℕ
-InvSubBytes x = block (λ i. sub_inv (slice_index x i))
+InvSubBytes x = each sub_inv x
 
 -- row r moves r columns to the right
 unfoldable pub InvShiftRows : List ℕ → List ℕ
-InvShiftRows x = block (λ i. slice_index x (13 * i % 16))
+InvShiftRows x = spread 13 x
 
 unfoldable pub InvMixColumns : List ℕ → List ℕ
 InvMixColumns x = columns unmix x
@@ -87,14 +90,11 @@ InverseInverts = (inverse 0 ≡ 0) × ((b : ℕ) → 0 < b → b < 256 → b •
 abbrev pub BoxesUndoEachOther : Type 0
 BoxesUndoEachOther = (b : ℕ) → b < 256 → (sub_inv (sub b) ≡ b) × (sub (sub_inv b) ≡ b)
 
--- doubling and the sums of doublings are the products with 2, 3, 9, 11, 13 and 14
+-- doubling and the sums of doublings are the products with 2, 3 and each number below 16
 pub record Multiples (b : ℕ) : Type 0 where
   pub by2 : xtime b ≡ 2 • b
   pub by3 : times3 b ≡ 3 • b
-  pub by9 : times9 b ≡ 9 • b
-  pub by11 : times11 b ≡ 11 • b
-  pub by13 : times13 b ≡ 13 • b
-  pub by14 : times14 b ≡ 14 • b
+  pub by : (c : ℕ) → c < 16 → times c b ≡ c • b
 
 abbrev pub CoefficientsAreProducts : Type 0
 CoefficientsAreProducts = (b : ℕ) → b < 256 → Multiples b

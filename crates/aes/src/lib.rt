@@ -3,10 +3,10 @@
 
 mod tables;
 
-ghost use Rattle.std.specs.Prelude.{◌≡◌};
+ghost use Rattle.std.specs.Prelude.{◌≡◌, ◌*◌, ◌%◌, ◌<◌, slice_index};
 ghost use Rattle.aes.specs.Blocks.{Block};
 ghost use Rattle.aes.specs.Field.{xtime};
-ghost use Rattle.aes.specs.Round.{sub, sub_inv, times9 as by9, times11 as by11, times13 as by13, times14 as by14, unmix};
+ghost use Rattle.aes.specs.Round.{sub, sub_inv, times as times_of, unmix, at_place, spread as spread_by};
 ghost use Rattle.aes.specs.Round.{SubBytes, ShiftRows, InvSubBytes, InvShiftRows, InvMixColumns, Finv};
 ghost use Rattle.aes.specs.Round.{BoxIsPublished, InverseInverts, BoxesUndoEachOther, CoefficientsAreProducts};
 ghost use Rattle.aes.specs.Round.{UndoEachOther, OneToOne, RoundOneToOne};
@@ -24,22 +24,14 @@ pub fn sub_byte(b: u8) -> u8
 pub fn sub_bytes(x: &[u8; 16]) -> [u8; 16]
     ensures { result ≡ SubBytes x.now }
 {
-    let mut out = [0; 16];
-    for i in 0..16 {
-        out[i] = sub_byte(x[i]);
-    }
-    out
+    x.map(sub_byte)
 }
 
 // Row r moves r columns to the left.
 pub fn shift_rows(x: &[u8; 16]) -> [u8; 16]
     ensures { result ≡ ShiftRows x.now }
 {
-    let mut out = [0; 16];
-    for i in 0..16 {
-        out[i] = x[5 * i % 16];
-    }
-    out
+    spread::<5>(x)
 }
 
 // The block that F makes `y` from.
@@ -60,44 +52,51 @@ fn inv_sub_byte(b: u8) -> u8
 fn inv_sub_bytes(x: &[u8; 16]) -> [u8; 16]
     ensures { result ≡ InvSubBytes x.now }
 {
-    let mut out = [0; 16];
-    for i in 0..16 {
-        out[i] = inv_sub_byte(x[i]);
-    }
-    out
+    x.map(inv_sub_byte)
 }
 
 fn inv_shift_rows(x: &[u8; 16]) -> [u8; 16]
     ensures { result ≡ InvShiftRows x.now }
 {
-    let mut out = [0; 16];
-    for i in 0..16 {
-        out[i] = x[13 * i % 16];
-    }
-    out
+    spread::<13>(x)
+}
+
+// Each place takes the byte at `STEP` times its own place, counted round.
+fn spread<const STEP: u8>(x: &[u8; 16]) -> [u8; 16]
+    ensures { result ≡ spread_by STEP x.now }
+{
+    std::array::from_fn(
+        |i: usize| -> u8
+            requires { i < 16 }
+            ensures { result ≡ slice_index x.entry.now (STEP * i % 16) }
+        { x[STEP as usize * i % 16] },
+    )
 }
 
 fn inv_mix_columns(x: &[u8; 16]) -> [u8; 16]
     ensures { result ≡ InvMixColumns x.now }
 {
-    let mut out = [0; 16];
-    for i in 0..16 {
-        let top = i / 4 * 4;
-        out[i] = unmix_byte(
-            x[i],
-            x[top + (i + 1) % 4],
-            x[top + (i + 2) % 4],
-            x[top + (i + 3) % 4],
-        );
-    }
-    out
+    std::array::from_fn(
+        |i: usize| -> u8
+            requires { i < 16 }
+            ensures { result ≡ at_place unmix x.entry.now i }
+        {
+            let top = i / 4 * 4;
+            unmix_byte(
+                x[i],
+                x[top + (i + 1) % 4],
+                x[top + (i + 2) % 4],
+                x[top + (i + 3) % 4],
+            )
+        },
+    )
 }
 
 // One byte of an unmixed column.
 fn unmix_byte(a: u8, b: u8, c: u8, d: u8) -> u8
     ensures { result ≡ unmix a b c d }
 {
-    times14(a) ^ times11(b) ^ (times13(c) ^ times9(d))
+    times::<14>(a) ^ times::<11>(b) ^ (times::<13>(c) ^ times::<9>(d))
 }
 
 // `b` times x in GF(2^8).
@@ -107,36 +106,18 @@ fn double(b: u8) -> u8
     (b << 1) ^ ((b >> 7) * 0x1b)
 }
 
-fn times9(b: u8) -> u8
-    ensures { result ≡ by9 b }
-{
-    double(double(double(b))) ^ b
-}
-
-fn times11(b: u8) -> u8
-    ensures { result ≡ by11 b }
-{
-    let b2 = double(b);
-    double(double(b2)) ^ (b2 ^ b)
-}
-
-fn times13(b: u8) -> u8
-    ensures { result ≡ by13 b }
-{
-    let b4 = double(double(b));
-    double(b4) ^ (b4 ^ b)
-}
-
-fn times14(b: u8) -> u8
-    ensures { result ≡ by14 b }
+// `b` times `C` in GF(2^8): the doublings of `b` that the lowest four bits of `C` name.
+fn times<const C: u8>(b: u8) -> u8
+    ensures { result ≡ times_of C b }
 {
     let b2 = double(b);
     let b4 = double(b2);
-    double(b4) ^ (b4 ^ b2)
+    let b8 = double(b4);
+    (C % 2 * b) ^ ((C / 2 % 2 * b2) ^ ((C / 4 % 2 * b4) ^ (C / 8 % 2 * b8)))
 }
 
 // The two tables of the code are the published ones, they undo each other, and so do F and its inverse.
-pub fn tables_and_rounds_stand() -> u8
+pub fn tables_and_rounds_stand()
     ensures published { BoxIsPublished }
     ensures inverts { InverseInverts }
     ensures boxes { BoxesUndoEachOther }
@@ -144,6 +125,4 @@ pub fn tables_and_rounds_stand() -> u8
     ensures undo { UndoEachOther }
     ensures one { OneToOne }
     ensures round { RoundOneToOne }
-{
-    0
-}
+{}

@@ -17,10 +17,12 @@ rotated m = 4 * (m / 4 - 1) + (m + 1) % 4
 --     SubWord(RotWord(w[i - 1])) ⊕ Rcon[i / 8]   where i is a multiple of 8,
 --     SubWord(w[i - 1])                          where i is 4 more than a multiple of 8,
 --     w[i - 1]                                   at any other i
+-- from byte m of w[i - 1] and of RotWord(w[i - 1])
+unfoldable pub added : ℕ → ℕ → ℕ → ℕ
+added m before turned = cond (m / 4 % 8 == 0) (bit_xor (sub turned) (rcon m)) (cond (m / 4 % 8 == 4) (sub before) before)
+
 unfoldable pub temp : ℕ → List ℕ → ℕ
-temp m w =
-    cond (m / 4 % 8 == 0) (bit_xor (sub (slice_index w (rotated m))) (rcon m))
-    (cond (m / 4 % 8 == 4) (sub (slice_index w (m - 4))) (slice_index w (m - 4)))
+temp m w = added m (slice_index w (m - 4)) (slice_index w (rotated m))
 
 -- byte m of w[i] = w[i - 8] ⊕ temp
 unfoldable pub next_byte : ℕ → List ℕ → ℕ

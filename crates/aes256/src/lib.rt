@@ -4,13 +4,12 @@
 pub mod state;
 
 ghost use Rattle.std.specs.Prelude.{◌≡◌, ◌<◌, ◌≤◌};
-ghost use Rattle.aes256.specs.Cipher.{rcon as rcon_of, temp as temp_of, next_byte as next_byte_of};
-ghost use Rattle.aes256.specs.Cipher.{schedule, cipher, AES256};
+ghost use Rattle.aes256.specs.Cipher.{added, schedule, cipher, AES256};
 ghost use Rattle.aes256.specs.Known.{VectorC3};
 
 use crate::state::Aes256;
 use aes::{shift_rows, sub_byte, sub_bytes};
-use words::{bytes_of, f_of, words_of, xor};
+use words::Words;
 
 impl Aes256 {
     // Expands a key.
@@ -19,8 +18,10 @@ impl Aes256 {
     {
         let mut schedule = [0; 240];
         schedule[..32].copy_from_slice(key);
+        // Each byte follows from bytes before it, so the loop goes by place.
         for m in 32..240 {
-            schedule[m] = next_byte(&schedule, m);
+            let turned = schedule[4 * (m / 4 - 1) + (m + 1) % 4];
+            schedule[m] = schedule[m - 32] ^ temp(m, schedule[m - 4], turned);
         }
         Aes256 { schedule }
     }
@@ -30,12 +31,12 @@ impl Aes256 {
         ensures { result ≡ cipher self.now.schedule block.now }
     {
         let (keys, _) = self.schedule.as_chunks::<16>();
-        let mut s = xor(words_of(block), words_of(&keys[0]));
-        for n in 0..13 {
-            s = xor(f_of(s), words_of(&keys[n + 1]));
+        let mut s = Words::from(block) ^ Words::from(&keys[0]);
+        for key in &keys[1..14] {
+            s = s.f() ^ Words::from(key);
         }
-        let last = shift_rows(&sub_bytes(&bytes_of(s)));
-        bytes_of(xor(words_of(&last), words_of(&keys[14])))
+        let last = shift_rows(&sub_bytes(&s.to_bytes()));
+        (Words::from(&last) ^ Words::from(&keys[14])).to_bytes()
     }
 }
 
@@ -46,38 +47,21 @@ pub fn aes256(key: &[u8; 32], block: &[u8; 16]) -> [u8; 16]
     Aes256::new(key).encrypt(block)
 }
 
-// Byte `m` of the key schedule, from the bytes before it.
-fn next_byte(w: &[u8; 240], m: usize) -> u8
+// What the word before adds to byte `m`: rotated and substituted in every eighth word, where the first byte takes the round
+// constant too, and substituted halfway between. `before` is its byte in the same row, and `turned` the one a row further on.
+fn temp(m: usize, before: u8, turned: u8) -> u8
     requires { (32 ≤ m) × (m < 240) }
-    ensures { result ≡ next_byte_of m w.now }
+    ensures { result ≡ added m before turned }
 {
-    w[m - 32] ^ temp(w, m)
-}
-
-// What the word before adds to byte `m`: rotated and substituted in every eighth word, substituted halfway between.
-fn temp(w: &[u8; 240], m: usize) -> u8
-    requires { (32 ≤ m) × (m < 240) }
-    ensures { result ≡ temp_of m w.now }
-{
-    let word = m / 4;
-    match word % 8 {
-        0 => sub_byte(w[4 * (word - 1) + (m + 1) % 4]) ^ rcon(m),
-        4 => sub_byte(w[m - 4]),
-        _ => w[m - 4],
+    match m / 4 % 8 {
+        0 if m % 4 == 0 => sub_byte(turned) ^ (1 << (m / 32 - 1)),
+        0 => sub_byte(turned),
+        4 => sub_byte(before),
+        _ => before,
     }
 }
 
-// What the round constant adds to byte `m` of every eighth word.
-fn rcon(m: usize) -> u8
-    requires { (32 ≤ m) × (m < 240) }
-    ensures { result ≡ rcon_of m }
-{
-    if m % 4 == 0 { 1 << (m / 32 - 1) } else { 0 }
-}
-
 // The definition AES256 gives the example C.3 of FIPS 197.
-pub fn fips_example() -> u8
+pub fn fips_example()
     ensures { VectorC3 }
-{
-    0
-}
+{}

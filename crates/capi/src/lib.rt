@@ -5,12 +5,12 @@ ghost use Rattle.std.specs.Prelude.{◌≡◌};
 ghost use Rattle.capi.specs.Calls.{CTagged, number_of as number_of_answer, AnswersNumber};
 
 use keys::state::{KeySlot, SerialBook};
-use modes::kinds::ModeKind;
+use message::state::Message;
+use modes::kinds::{AnyMode, ModeKind};
 use oneshot::tag;
 use refusals::Refusal;
-use singles::state::{Smac1, Smac12, Smac34};
-use streams::state::Smac1xN;
 
+// The parameters are those that C hands in.
 fn tag_message(
     mode: u8,
     streams: u8,
@@ -27,21 +27,13 @@ fn tag_message(
     let mut slot = KeySlot::new();
     slot.set(key)?;
     let drawn = SerialBook::new(office, serial, serial).draw()?;
-    match kind {
-        ModeKind::Smac1 => tag::<Smac1>((), &slot, drawn, header, body, out),
-        ModeKind::Smac34 => tag::<Smac34>((), &slot, drawn, header, body, out),
-        ModeKind::Smac12 => tag::<Smac12>((), &slot, drawn, header, body, out),
-        ModeKind::Smac1xN(count) => tag::<Smac1xN>(count, &slot, drawn, header, body, out),
-    }
+    tag::<AnyMode>(kind, &slot, drawn, &Message { header, body }, out)
 }
 
 fn number_of(answer: Result<(), Refusal>) -> u8
     ensures { result ≡ number_of_answer answer }
 {
-    match answer {
-        Ok(()) => 0,
-        Err(refusal) => refusal.number(),
-    }
+    answer.err().map_or(0, Refusal::number)
 }
 
 // Tags a message in memory. The serial counts as drawn from a book of that one serial.

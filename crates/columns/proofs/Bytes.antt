@@ -1,5 +1,4 @@
 -- The bytes of a word: equality by a test, and the exclusive or of two words.
---
 use Rattle.std.proofs.Common.{◌≡◌, ℕ, ◌/◌, ◌%◌, Bool, true, false, T, eqb, List, [], ◌∷◌, refl, ap, ◌∙◌, eqb→eq}
 use lib.Bits.{bit_xor, xor_mod, xor_shr}
 use lib.Lanes.{zip2}

@@ -4,7 +4,7 @@ use lib.Bits.{bit_xor, xor_assoc, xor_comm}
 use lib.Lanes.{zip2}
 use Rattle.aes.specs.Field.{xtime}
 use Rattle.aes.specs.Round.{sub, times3, mix}
-use Rattle.columns.specs.Columns.{entry0, entry1, entry2, entry3, column}
+use Rattle.columns.specs.Columns.{entry, column}
 
 -- four in a row, from each place on
 from0 : (a b c d : ℕ) → bit_xor (bit_xor (bit_xor a b) c) d ≡ bit_xor (bit_xor a b) (bit_xor c d)
@@ -19,7 +19,7 @@ from3 a b c d = ap (λ (x : ℕ). bit_xor x d) (xor_assoc a b c) ∙ xor_comm (b
 from1 : (a b c d : ℕ) → bit_xor (bit_xor (bit_xor a b) c) d ≡ bit_xor (bit_xor b c) (bit_xor d a)
 from1 a b c d = from3 a b c d ∙ xor_comm (bit_xor d a) (bit_xor b c)
 
-pub entries_column : (p q s t : ℕ) → zip2 bit_xor (zip2 bit_xor (zip2 bit_xor (entry0 p) (entry1 q)) (entry2 s)) (entry3 t) ≡ column p q s t
+pub entries_column : (p q s t : ℕ) → zip2 bit_xor (zip2 bit_xor (zip2 bit_xor (entry 0 p) (entry 1 q)) (entry 2 s)) (entry 3 t) ≡ column p q s t
 unfolding mix
 entries_column p q s t =
     let e0 = from0 (xtime (sub p)) (times3 (sub q)) (sub s) (sub t) in

@@ -1,5 +1,5 @@
 -- The bytes of a word, the entries of the four tables, and the column that four bytes give.
-use Rattle.std.specs.Prelude.{ℕ, ◌/◌, ◌%◌, List, [], ◌∷◌}
+use Rattle.std.specs.Prelude.{ℕ, zero, suc, ◌/◌, ◌%◌, List, [], ◌∷◌}
 use Rattle.aes.specs.Field.{xtime}
 use Rattle.aes.specs.Round.{sub, times3, mix}
 
@@ -7,17 +7,15 @@ use Rattle.aes.specs.Round.{sub, times3, mix}
 abbrev pub le : ℕ → List ℕ
 le w = (w % 256) ∷ (w / 256 % 256) ∷ (w / 65536 % 256) ∷ (w / 16777216 % 256) ∷ []
 
-abbrev pub entry0 : ℕ → List ℕ
-entry0 x = xtime (sub x) ∷ sub x ∷ sub x ∷ times3 (sub x) ∷ []
+-- the last of four bytes comes to the front
+abbrev pub turned : List ℕ → List ℕ
+turned (a ∷ b ∷ c ∷ d ∷ []) = d ∷ a ∷ b ∷ c ∷ []
+turned _ = []
 
-abbrev pub entry1 : ℕ → List ℕ
-entry1 x = times3 (sub x) ∷ xtime (sub x) ∷ sub x ∷ sub x ∷ []
-
-abbrev pub entry2 : ℕ → List ℕ
-entry2 x = sub x ∷ times3 (sub x) ∷ xtime (sub x) ∷ sub x ∷ []
-
-abbrev pub entry3 : ℕ → List ℕ
-entry3 x = sub x ∷ sub x ∷ times3 (sub x) ∷ xtime (sub x) ∷ []
+-- what a byte in the first row gives to the column, and one that stands a row further down
+abbrev pub entry : ℕ → ℕ → List ℕ
+entry zero x = xtime (sub x) ∷ sub x ∷ sub x ∷ times3 (sub x) ∷ []
+entry (suc row) x = turned (entry row x)
 
 -- SubBytes and MixColumns of the four bytes of one column
 abbrev pub column : ℕ → ℕ → ℕ → ℕ → List ℕ

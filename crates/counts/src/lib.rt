@@ -20,17 +20,3 @@ pub fn length_block(header: ByteCount, body: ByteCount) -> [u8; 16]
     r[8..16].copy_from_slice(&b);
     r
 }
-
-// A number in four little-endian bytes.
-pub fn le32(n: u32) -> [u8; 4]
-    ensures { result ≡ little 4 n }
-{
-    n.to_le_bytes()
-}
-
-// A number in eight little-endian bytes.
-pub fn le64(value: u64) -> [u8; 8]
-    ensures { result ≡ little 8 value }
-{
-    value.to_le_bytes()
-}

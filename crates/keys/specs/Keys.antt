@@ -1,5 +1,5 @@
 -- Key slots, serial books, and the IV of a run.
-use Rattle.std.specs.Prelude.{◌≡◌, ℕ, ◌+◌, ◌-◌, ◌<◌, ◌≤◌, cond, ◌⊎◌, List, ◌++◌, length, replicate, Ok, Err, Result}
+use Rattle.std.specs.Prelude.{◌≡◌, ℕ, ◌+◌, ◌-◌, ◌<◌, ◌≤◌, ◌⊎◌, None, Some, List, ◌++◌, length, replicate, Ok, Err, Result}
 use Rattle.refusals.specs.declared.Refusal.{Refusal}
 use Rattle.refusals.specs.Numbers.{number}
 use Rattle.counts.specs.Little.{little}
@@ -13,11 +13,11 @@ KeySet old given (Err e) new = ((length given < 16) ⊎ (32 < length given)) × 
 
 -- the serial that comes next; one past the last where none does
 abbrev pub comes : SerialBook → ℕ
-comes b = cond b.more b.next (b.last + 1)
+comes b = elim b.next [ None ↦ b.last + 1 | Some n ↦ n ]
 
 -- what a draw from b answers, and the book it leaves
 abbrev pub Draws : SerialBook → Result DrawnSerial Refusal → SerialBook → Type 0
-Draws b (Ok s) b' = (comes b ≤ b.last) × (s.number ≡ comes b) × (s.office ≡ b.office) × (comes b' ≡ comes b + 1) × (b'.last ≡ b.last) × (b'.office ≡ b.office)
+Draws b (Ok s) b' = (comes b ≤ b.last) × (s.serial.number ≡ comes b) × (s.serial.office ≡ b.office) × (comes b' ≡ comes b + 1) × (b'.last ≡ b.last) × (b'.office ≡ b.office)
 Draws b (Err e) b' = (b.last < comes b) × (number e ≡ 2) × (b' ≡ b)
 
 -- office (4 bytes), three zeros, serial (8 bytes), zero

@@ -1,13 +1,13 @@
-// Key slots, serial books and drawn serials, and the IV of a run.
+// Key slots, serial books, serials drawn or received, and the IV of a run.
 #![tactic(auto)]
 
 pub mod state;
 
 ghost use Rattle.std.specs.Prelude.{◌≡◌, ◌-◌, replicate};
+ghost use Rattle.keys.specs.declared.state.Serial.{Serial as SerialRecord};
 ghost use Rattle.keys.specs.Keys.{KeySet, comes, Draws, iv_of};
 
-use crate::state::{DrawnSerial, KeySlot, SerialBook};
-use counts::{le32, le64};
+use crate::state::{DrawnSerial, KeySlot, Serial, SerialBook};
 use refusals::Refusal;
 
 impl KeySlot {
@@ -47,57 +47,75 @@ impl SerialBook {
     {
         SerialBook {
             office,
-            next: first,
+            next: Some(first),
             last,
-            more: true,
         }
     }
 
     pub fn draw(&mut self) -> Result<DrawnSerial, Refusal>
         ensures { Draws self.old result self.new }
     {
-        if !self.more || self.next > self.last {
+        let number = self.next.ok_or(Refusal::Serials)?;
+        if number > self.last {
             return Err(Refusal::Serials);
         }
-        let number = self.next;
-        if number < self.last {
-            self.next = number + 1;
-        } else {
-            self.more = false;
-        }
+        self.next = number.checked_add(1);
         Ok(DrawnSerial {
-            office: self.office,
-            number,
+            serial: Serial {
+                office: self.office,
+                number,
+            },
         })
     }
 }
 
 impl DrawnSerial {
     pub fn office(&self) -> u32
-        ensures { result ≡ self.now.office }
+        ensures { result ≡ self.now.serial.office }
     {
-        self.office
+        self.serial.office
     }
 
     pub fn number(&self) -> u64
-        ensures { result ≡ self.now.number }
+        ensures { result ≡ self.now.serial.number }
     {
-        self.number
-    }
-
-    // The IV of the run that it begins.
-    pub fn iv(self) -> [u8; 16]
-        ensures { result ≡ iv_of self.office self.number }
-    {
-        iv(self.office, self.number)
+        self.serial.number
     }
 }
 
-// Office in bytes 0 to 3, serial in bytes 7 to 14, little-endian; zeros between and after.
-pub fn iv(office: u32, serial: u64) -> [u8; 16]
-    ensures { result ≡ iv_of office serial }
-{
-    let [o0, o1, o2, o3] = le32(office);
-    let [s0, s1, s2, s3, s4, s5, s6, s7] = le64(serial);
-    [o0, o1, o2, o3, 0, 0, 0, s0, s1, s2, s3, s4, s5, s6, s7, 0]
+impl Serial {
+    // The IV of a run: office in bytes 0 to 3, number in bytes 7 to 14, little-endian; zeros between and after.
+    pub fn iv(self) -> [u8; 16]
+        ensures { result ≡ iv_of self.office self.number }
+    {
+        let [o0, o1, o2, o3] = self.office.to_le_bytes();
+        let [n0, n1, n2, n3, n4, n5, n6, n7] = self.number.to_le_bytes();
+        [o0, o1, o2, o3, 0, 0, 0, n0, n1, n2, n3, n4, n5, n6, n7, 0]
+    }
+}
+
+// What begins a run: a serial that was drawn, or one as received.
+pub trait Numbered {
+    // the serial that it is
+    ghost numbered: { Self → SerialRecord };
+
+    fn serial(self) -> Serial
+        ensures { result ≡ numbered self };
+}
+
+impl Numbered for Serial {
+    ghost numbered = { λ s. s };
+
+    fn serial(self) -> Serial {
+        self
+    }
+}
+
+impl Numbered for DrawnSerial {
+    ghost numbered = { λ d. d.serial };
+
+    fn serial(self) -> Serial {
+        let DrawnSerial { serial } = self;
+        serial
+    }
 }

@@ -8,18 +8,23 @@ pub struct KeySlot {
     ghost long: { length bytes ≡ 32 },
 }
 
-// Serials of one office, from the next to the last.
+// An office, and one of its serials.
+#[derive(Clone, Copy, PartialEq, Eq, Debug)]
+pub struct Serial {
+    pub office: u32,
+    pub number: u64,
+}
+
+// Serials of one office, from the next to the last. There is none after the highest number.
 #[derive(Drop)]
 pub struct SerialBook {
     pub(crate) office: u32,
-    pub(crate) next: u64,
+    pub(crate) next: Option<u64>,
     pub(crate) last: u64,
-    pub(crate) more: bool,
 }
 
 // A serial that was drawn. It cannot be copied: it begins one run.
 #[derive(Drop)]
 pub struct DrawnSerial {
-    pub(crate) office: u32,
-    pub(crate) number: u64,
+    pub(crate) serial: Serial,
 }

@@ -6,4 +6,4 @@ use Rattle.keystream.specs.declared.state.CounterMode.{CounterMode}
 
 -- the words of counter mode under an expanded key
 abbrev pub counter_words : CounterMode → ℕ → List ℕ
-counter_words s j = cipher s.expanded.schedule (counter_block s.office s.serial j)
+counter_words s j = cipher s.expanded.schedule (counter_block s.serial.office s.serial.number j)

@@ -10,7 +10,7 @@ use Rattle.aes.specs.Round.{sub, SubBytes, ShiftRows}
 use Rattle.aes.proofs.Blocks.{block_bytes}
 use Rattle.aes.proofs.Boxes.{sub_lt}
 use Rattle.aes.proofs.Xor.{xor_block}
-use Rattle.aes256.specs.Cipher.{rcon, temp, rotated, next_byte, grow, schedule, round_key, rounds, cipher}
+use Rattle.aes256.specs.Cipher.{rcon, added, temp, rotated, next_byte, grow, schedule, round_key, rounds, cipher}
 use Rattle.keystream.specs.Keystream.{OfBlocks, counter_block, keystream}
 
 -- the S-box gives a byte, whatever it is asked
@@ -32,7 +32,7 @@ rcon_byte m h =
     either (m % 4 == 0) (2 ^ (m / 32 - 1)) 0 (pow-lt low) (omega arith)
 
 next_byte_byte : (m : ℕ) (w : List ℕ) → m < 240 → Bytes w → next_byte m w < 256
-unfolding next_byte temp
+unfolding next_byte temp added
 next_byte_byte m w h b =
     xor_lt 8 _ _ (b (m - 32))
     (either (m / 4 % 8 == 0) _ _ (xor_lt 8 _ _ (sub_byte (slice_index w (rotated m))) (rcon_byte m h))

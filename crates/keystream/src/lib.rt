@@ -11,8 +11,7 @@ ghost use Rattle.keystream.specs.Words.{cipher_block};
 
 use crate::state::CounterMode;
 use aes256::state::Aes256;
-use counts::{le32, le64};
-use keys::state::KeySlot;
+use keys::state::{KeySlot, Serial};
 
 pub trait Keystream {
     // the word at each place
@@ -26,12 +25,11 @@ pub trait Keystream {
 
 impl CounterMode {
     // Expands the key, once for all places.
-    pub fn new(key: &KeySlot, office: u32, serial: u64) -> CounterMode
-        ensures { counter_words result ≡ keystream key.now.bytes office serial }
+    pub fn new(key: &KeySlot, serial: Serial) -> CounterMode
+        ensures { counter_words result ≡ keystream key.now.bytes serial.office serial.number }
     {
         CounterMode {
             expanded: Aes256::new(key.bytes()),
-            office,
             serial,
         }
     }
@@ -40,22 +38,21 @@ impl CounterMode {
 impl Keystream for CounterMode {
     ghost words = { counter_words };
 
-    ghost block = { λ s place. cipher_block s.expanded.schedule (counter_block_of s.office s.serial place) s.bytes };
+    ghost block = { λ s place. cipher_block s.expanded.schedule (counter_block_of s.serial.office s.serial.number place) s.bytes };
 
     fn word(&self, place: u32) -> [u8; 16] {
-        self.expanded
-            .encrypt(&counter_block(self.office, self.serial, place))
+        self.expanded.encrypt(&counter_block(self.serial, place))
     }
 }
 
-// Office and serial, the lowest byte first, and then the place, the highest byte first.
-fn counter_block(office: u32, serial: u64, place: u32) -> [u8; 16]
-    ensures { result ≡ counter_block_of office serial place }
+// Office and number, the lowest byte first, and then the place, the highest byte first.
+fn counter_block(serial: Serial, place: u32) -> [u8; 16]
+    ensures { result ≡ counter_block_of serial.office serial.number place }
 {
-    let [o0, o1, o2, o3] = le32(office);
-    let [s0, s1, s2, s3, s4, s5, s6, s7] = le64(serial);
-    let [p0, p1, p2, p3] = le32(place);
+    let [o0, o1, o2, o3] = serial.office.to_le_bytes();
+    let [n0, n1, n2, n3, n4, n5, n6, n7] = serial.number.to_le_bytes();
+    let [p0, p1, p2, p3] = place.to_be_bytes();
     [
-        o0, o1, o2, o3, s0, s1, s2, s3, s4, s5, s6, s7, p3, p2, p1, p0,
+        o0, o1, o2, o3, n0, n1, n2, n3, n4, n5, n6, n7, p0, p1, p2, p3,
     ]
 }

@@ -3,6 +3,7 @@ use Rattle.std.specs.Prelude.{◌≡◌, ℕ, ◌+◌, ◌≤◌, List, [], ◌�
 use Rattle.std.specs.List.{AllByRecursion}
 use Rattle.refusals.specs.declared.Refusal.{Refusal}
 use Rattle.keys.specs.declared.state.SerialBook.{SerialBook}
+use Rattle.keys.specs.declared.state.Serial.{Serial}
 use Rattle.keys.specs.declared.state.DrawnSerial.{DrawnSerial}
 use Rattle.keys.specs.Keys.{comes, Draws}
 
@@ -12,13 +13,13 @@ pub data Drawings : SerialBook → List (Result DrawnSerial Refusal) → SerialB
   more : {b c d : SerialBook} {answers : List (Result DrawnSerial Refusal)} (answer : Result DrawnSerial Refusal) → Draws b answer c → Drawings c answers d → Drawings b (answer ∷ answers) d
 
 -- the serials that were drawn
-abbrev pub drawn : List (Result DrawnSerial Refusal) → List DrawnSerial
+abbrev pub drawn : List (Result DrawnSerial Refusal) → List Serial
 drawn [] = []
-drawn (Ok s ∷ answers) = s ∷ drawn answers
+drawn (Ok s ∷ answers) = s.serial ∷ drawn answers
 drawn (Err e ∷ answers) = drawn answers
 
 -- each serial lies above the one before it, so that none is drawn twice
-abbrev pub RisingFrom : ℕ → List DrawnSerial → Type 0
+abbrev pub RisingFrom : ℕ → List Serial → Type 0
 RisingFrom low [] = Unit {0}
 RisingFrom low (s ∷ serials) = (low ≤ s.number) × RisingFrom (s.number + 1) serials
 

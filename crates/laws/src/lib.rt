@@ -8,23 +8,17 @@ ghost use Rattle.laws.specs.Draws.{LawOfDraws};
 ghost use Rattle.laws.specs.Runs.{LawOfRuns};
 
 // The law of runs, of every lawful mode, and of the four modes by name.
-pub fn law_of_runs() -> u8
+pub fn law_of_runs()
     ensures lawful { LawOfRuns Lawful }
     ensures smac { LawOfRuns Smac }
-{
-    0
-}
+{}
 
 // Comparisons made plus allowance left equals the first allowance.
-pub fn law_of_comparisons() -> u8
+pub fn law_of_comparisons()
     ensures { LawOfComparisons }
-{
-    0
-}
+{}
 
 // Serials drawn from one book rise, so none is drawn twice.
-pub fn law_of_draws() -> u8
+pub fn law_of_draws()
     ensures { LawOfDraws }
-{
-    0
-}
+{}

@@ -1,17 +1,43 @@
 -- Bytes fed in parts are bytes fed at once, and whole blocks go straight to the mode.
 use Rattle.std.proofs.Common.{◌≡◌, ℕ, zero, suc, ◌+◌, ◌-◌, ◌*◌, ◌/◌, ◌<◌, ◌≤◌, Bool, true, false, cond, eqb, List, [], ◌∷◌, ◌++◌, length, take, drop, replicate, sym, refl, ap, ◌∙◌, append_assoc, append-nil, arith, length-append, length-drop, take-append-drop, length-take, drop-drop, eq-eqb, ne_eqb}
+use Rattle.std.proofs.lemmas.List.{drop-replicate, take-append-le, take_all}
+use Rattle.std.proofs.lemmas.Slice.{take-put_mid, drop-put_mid}
+use borrow.Rule.Slice.PartMut.{put_mid}
 use Rattle.std.specs.Simd.{first_chunks}
 use Rattle.mode.specs.Rules.{Rule, State, after, absorbed}
 use Rattle.message.specs.Framing.{cut, flushed}
-use Rattle.message.specs.Feeding.{Fed, fed, fed_of, fed_byte, flush, held}
-use Rattle.message.specs.declared.state.Pending.{Pending}
+use Rattle.message.specs.Feeding.{Fed, fed, fed_of, fed_byte, flush}
 
 pub flushed_some : (p : List ℕ) → 0 < length p → flushed p ≡ (p ++ replicate (16 - length p) 0) ∷ []
 flushed_some [] h = absurd (omega arith)
 flushed_some (x ∷ p) h = refl
 
-pub held_length : (p : Pending) → length (held p) ≡ p.len
-held_length p = simp length-take (omega (arith, p.ok.0, p.ok.1))
+drop_whole : (a b : List ℕ) (n : ℕ) → length a ≡ n → drop n (a ++ b) ≡ b
+drop_whole [] b zero h = refl
+drop_whole [] b (suc n) h = absurd (omega arith)
+drop_whole (x ∷ a) b zero h = absurd (omega arith)
+drop_whole (x ∷ a) b (suc n) h = drop_whole a b n (omega arith)
+
+-- a block of the bytes that wait, of more bytes, and of zeros, as two writes make it
+pub block_filled : (s k : ℕ) (w m a b : List ℕ) → a ≡ w → b ≡ m → s ≡ length w → k ≡ (s + length m) - s → s + length m ≤ 16 →
+    put_mid s k (a ++ drop s (replicate 16 0)) b ≡ (w ++ m) ++ replicate (16 - length (w ++ m)) 0
+block_filled s k w m a b ea eb es ek h =
+    let n = s + length m in
+    let xs = a ++ drop s (replicate 16 0) in
+    let la : length a ≡ s = omega (arith, ap length ea) in
+    let lb : length b ≡ length m = ap length eb in
+    let l : s ≤ length xs = omega (arith, length-append a (drop s (replicate 16 0))) in
+    let all : s + length m ≡ length (w ++ m) = omega (arith, length-append w m) in
+    let front : take n (put_mid s k xs b) ≡ w ++ m =
+    take-put_mid s k xs b n (omega arith) l ∙ ap (λ z. take s xs ++ z) eb ∙ ap (λ z. z ++ m) (take-append-le s a (drop s (replicate 16 0)) (omega arith) ∙ take_all s a (omega arith) ∙ ea) in
+    let back : drop n (put_mid s k xs b) ≡ replicate (16 - length (w ++ m)) 0 =
+    drop-put_mid s k xs b n (omega arith) l (omega arith)
+    ∙ sym (drop-drop (length m) s xs)
+    ∙ ap (drop (length m)) (drop_whole a (drop s (replicate 16 0)) s la)
+    ∙ drop-drop (length m) s (replicate 16 0)
+    ∙ ap (λ z. drop z (replicate 16 0)) all
+    ∙ drop-replicate (length (w ++ m)) 16 0 in
+    sym (take-append-drop n (put_mid s k xs b)) ∙ ap (λ z. z ++ drop n (put_mid s k xs b)) front ∙ ap (λ z. (w ++ m) ++ z) back
 
 module _ (r : Rule) where
   pub fed_append : (s : Fed) (xs ys : List ℕ) → fed r s (xs ++ ys) ≡ fed r (fed r s xs) ys

@@ -4,7 +4,7 @@ use Rattle.refusals.specs.declared.Refusal.{Refusal}
 use Rattle.refusals.specs.Numbers.{number}
 use Rattle.mode.specs.Rules.{Rule, State}
 use Rattle.smac.specs.Smac.{smac1, smac34, smac12, smac1x}
-use Rattle.singles.specs.States.{state1, state34, state12}
+use Rattle.singles.specs.States.{state_of}
 use Rattle.streams.specs.States.{state1x}
 use Rattle.modes.specs.declared.kinds.ModeKind.{ModeKind}
 use Rattle.modes.specs.declared.kinds.ModeKind.TheVariants as kind
@@ -21,12 +21,12 @@ abbrev pub any_rule : AnyMode → Rule
 any_rule (any.Smac1 m) = smac1
 any_rule (any.Smac34 m) = smac34
 any_rule (any.Smac12 m) = smac12
-any_rule (any.Smac1xN m) = smac1x m.count
+any_rule (any.Smac1xN m) = smac1x m.count.n
 
 abbrev pub any_state : AnyMode → State
-any_state (any.Smac1 m) = state1 m
-any_state (any.Smac34 m) = state34 m
-any_state (any.Smac12 m) = state12 m
+any_state (any.Smac1 m) = state_of m
+any_state (any.Smac34 m) = state_of m
+any_state (any.Smac12 m) = state_of m
 any_state (any.Smac1xN m) = state1x m
 
 -- a mode's code and its number of streams, 0 where it has none

@@ -3,7 +3,8 @@ use Rattle.std.specs.Prelude.{◌≤◌}
 use Rattle.std.proofs.Common.{arith}
 use Rattle.mode.specs.Rules.{Lawful, Good}
 use Rattle.smac.proofs.Singles.{whole, three_quarters, half}
-use Rattle.singles.specs.Goods.{good1, good34, good12}
+use Rattle.rounds.proofs.Permutations.{sigma1_undone, sigma34_undone, sigma12_undone}
+use Rattle.singles.specs.Goods.{good_of}
 use Rattle.streams.specs.Goods.{lawful1x, good1x}
 use Rattle.modes.specs.declared.kinds.AnyMode.{AnyMode}
 use Rattle.modes.specs.declared.kinds.AnyMode.TheVariants as any
@@ -16,9 +17,9 @@ any_lawful (any.Smac12 m) = half
 any_lawful (any.Smac1xN m) = lawful1x m
 
 pub any_good : (m : AnyMode) → Good (any_rule m) (any_state m)
-any_good (any.Smac1 m) = good1 m
-any_good (any.Smac34 m) = good34 m
-any_good (any.Smac12 m) = good12 m
+any_good (any.Smac1 m) = good_of sigma1_undone m
+any_good (any.Smac34 m) = good_of sigma34_undone m
+any_good (any.Smac12 m) = good_of sigma12_undone m
 any_good (any.Smac1xN m) = good1x m
 
 -- `finish` has room for the largest tag

@@ -2,7 +2,7 @@
 use singles::state::{Smac1, Smac12, Smac34};
 use streams::state::{Smac1xN, StreamCount};
 
-#[derive(Clone, Copy)]
+#[derive(Clone, Copy, Debug, PartialEq, Eq)]
 pub enum ModeKind {
     Smac1,
     Smac34,

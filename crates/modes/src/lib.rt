@@ -2,6 +2,7 @@
 #![tactic(auto)]
 
 pub mod kinds;
+pub mod names;
 
 ghost use Rattle.modes.specs.Any.{any_chosen, any_rule, any_state, KindChosen};
 ghost use Rattle.modes.specs.Goods.{any_lawful, any_good, any_short};
@@ -13,7 +14,7 @@ use singles::state::{Smac1, Smac12, Smac34};
 use streams::state::{Smac1xN, StreamCount};
 
 impl ModeKind {
-    // The mode of a code: 1, 2 and 3 with no streams, 4 with 1 to 16.
+    // The mode of a code: 1, 2 and 3 with no streams, 4 with 1 to 16. The numbers come from the C interface.
     pub fn of(code: u8, streams: u8) -> Result<ModeKind, Refusal>
         ensures { KindChosen code streams result }
     {
@@ -21,12 +22,13 @@ impl ModeKind {
             (1, 0) => Ok(ModeKind::Smac1),
             (2, 0) => Ok(ModeKind::Smac34),
             (3, 0) => Ok(ModeKind::Smac12),
-            (4, _) => Ok(ModeKind::Smac1xN(StreamCount::new(streams)?)),
+            (4, _) => Ok(ModeKind::Smac1xN(StreamCount::try_from(streams)?)),
             _ => Err(Refusal::ModeOrStreams),
         }
     }
 }
 
+// A match in each method: an impl by a macro is refused, and a `dyn Mode` would be no `Copy`.
 impl Mode for AnyMode {
     type Setup = ModeKind;
 
@@ -52,44 +54,30 @@ impl Mode for AnyMode {
     }
 
     fn absorb(&mut self, block: &[u8; 16]) {
-        match *self {
-            AnyMode::Smac1(mut m) => {
-                m.absorb(block);
-                *self = AnyMode::Smac1(m);
-            }
-            AnyMode::Smac34(mut m) => {
-                m.absorb(block);
-                *self = AnyMode::Smac34(m);
-            }
-            AnyMode::Smac12(mut m) => {
-                m.absorb(block);
-                *self = AnyMode::Smac12(m);
-            }
-            AnyMode::Smac1xN(mut m) => {
-                m.absorb(block);
-                *self = AnyMode::Smac1xN(m);
-            }
+        match self {
+            AnyMode::Smac1(m) => m.absorb(block),
+            AnyMode::Smac34(m) => m.absorb(block),
+            AnyMode::Smac12(m) => m.absorb(block),
+            AnyMode::Smac1xN(m) => m.absorb(block),
+        }
+    }
+
+    // the mode is looked up once for all blocks
+    fn absorb_all(&mut self, blocks: &[[u8; 16]]) {
+        match self {
+            AnyMode::Smac1(m) => m.absorb_all(blocks),
+            AnyMode::Smac34(m) => m.absorb_all(blocks),
+            AnyMode::Smac12(m) => m.absorb_all(blocks),
+            AnyMode::Smac1xN(m) => m.absorb_all(blocks),
         }
     }
 
     fn walk_back(&mut self, block: &[u8; 16]) {
-        match *self {
-            AnyMode::Smac1(mut m) => {
-                m.walk_back(block);
-                *self = AnyMode::Smac1(m);
-            }
-            AnyMode::Smac34(mut m) => {
-                m.walk_back(block);
-                *self = AnyMode::Smac34(m);
-            }
-            AnyMode::Smac12(mut m) => {
-                m.walk_back(block);
-                *self = AnyMode::Smac12(m);
-            }
-            AnyMode::Smac1xN(mut m) => {
-                m.walk_back(block);
-                *self = AnyMode::Smac1xN(m);
-            }
+        match self {
+            AnyMode::Smac1(m) => m.walk_back(block),
+            AnyMode::Smac34(m) => m.walk_back(block),
+            AnyMode::Smac12(m) => m.walk_back(block),
+            AnyMode::Smac1xN(m) => m.walk_back(block),
         }
     }
 

@@ -1,42 +1,118 @@
-// The three registers as words, and the round on them. The first register is kept as it was before its permutation.
+// The three registers as words, and the round on them.
 #![tactic(auto)]
 
 ghost use Rattle.std.specs.Prelude.{◌≡◌};
 ghost use Rattle.rounds.specs.Round.{round, unround};
-ghost use Rattle.rounds.specs.Mixing.{dummy as dummy_of};
+ghost use Rattle.rounds.specs.Mixing.{dummy as dummy_of, zero_registers};
 ghost use Rattle.rounds.specs.Mixing.{◌⊞◌, dummy_rounds as dummy_rounds_of, mixed as mixed_of, keyed as keyed_of};
 ghost use Rattle.registers.specs.Registers.{regs, three_of};
 ghost use Rattle.words.specs.Words.{bytes};
 
 use sigma::Permutation;
-use words::{Words, bytes_of, f_of, inv_f_of, words_of, xor};
+use std::marker::PhantomData;
+use std::ops::BitXor;
+use words::Words;
 
-#[derive(Clone, Copy)]
-pub struct RegisterWords {
-    pub p1: Words,
+// The first register is kept as it was before the permutation P.
+#[derive_where(Clone, Copy)]
+pub struct RegisterWords<P> {
+    p1: Words,
     pub a2: Words,
     pub a3: Words,
+    permuted: PhantomData<P>,
 }
 
-pub fn step<P: Permutation>(s: RegisterWords, m: Words) -> RegisterWords
-    ensures { regs P.sigma result ≡ round P.sigma (regs P.sigma s) (bytes m) }
-{
-    RegisterWords {
-        p1: xor(xor(s.a2, s.a3), m),
-        a2: xor(P::f_of_moved(s.p1), m),
-        a3: xor(f_of(s.a2), m),
+impl<P: Permutation> RegisterWords<P> {
+    pub fn from_bytes(a1: &[u8; 16], a2: &[u8; 16], a3: &[u8; 16]) -> RegisterWords<P>
+        ensures { regs P.sigma result ≡ record { a1 = a1.now; a2 = a2.now; a3 = a3.now } }
+    {
+        RegisterWords {
+            p1: P::moved_back(Words::from(a1)),
+            a2: Words::from(a2),
+            a3: Words::from(a3),
+            permuted: PhantomData,
+        }
+    }
+
+    // The bytes of A1, A2 and A3.
+    pub fn to_bytes(self) -> [[u8; 16]; 3]
+        ensures { result ≡ three_of (regs P.sigma self) }
+    {
+        [
+            P::moved(self.p1).to_bytes(),
+            self.a2.to_bytes(),
+            self.a3.to_bytes(),
+        ]
+    }
+
+    pub fn zero() -> RegisterWords<P>
+        ensures { regs P.sigma result ≡ zero_registers }
+    {
+        RegisterWords::from_bytes(&[0; 16], &[0; 16], &[0; 16])
+    }
+
+    // Key and IV in their registers.
+    pub fn keyed(key: &[u8; 32], iv: &[u8; 16]) -> RegisterWords<P>
+        ensures { regs P.sigma result ≡ keyed_of key.now iv.now }
+    {
+        let (halves, _) = key.as_chunks::<16>();
+        RegisterWords::from_bytes(&halves[1], &halves[0], iv)
+    }
+
+    pub fn step(self, m: Words) -> RegisterWords<P>
+        ensures { regs P.sigma result ≡ round P.sigma (regs P.sigma self) (bytes m) }
+    {
+        RegisterWords {
+            p1: self.a2 ^ self.a3 ^ m,
+            a2: P::moved(self.p1).f() ^ m,
+            a3: self.a2.f() ^ m,
+            permuted: PhantomData,
+        }
+    }
+
+    // The way back of `step`.
+    pub fn unstep(self, m: Words) -> RegisterWords<P>
+        ensures { regs P.sigma result ≡ unround P.sigma (regs P.sigma self) (bytes m) }
+    {
+        let a2 = (self.a3 ^ m).inv_f();
+        RegisterWords {
+            p1: P::moved_back((self.a2 ^ m).inv_f()),
+            a2,
+            a3: self.p1 ^ a2 ^ m,
+            permuted: PhantomData,
+        }
+    }
+
+    pub fn dummy_rounds(self, n: u8) -> RegisterWords<P>
+        ensures { regs P.sigma result ≡ dummy_rounds_of P.sigma n (regs P.sigma self) }
+    {
+        let mut s = self;
+        for _ in 0..n {
+            s = s.step(dummy());
+        }
+        s
+    }
+
+    pub fn mixed(self) -> RegisterWords<P>
+        ensures { regs P.sigma result ≡ mixed_of P.sigma (regs P.sigma self) }
+    {
+        self.dummy_rounds(9) ^ self
     }
 }
 
-// The way back of `step`.
-pub fn unstep<P: Permutation>(s: RegisterWords, m: Words) -> RegisterWords
-    ensures { regs P.sigma result ≡ unround P.sigma (regs P.sigma s) (bytes m) }
-{
-    let a2 = inv_f_of(xor(s.a3, m));
-    RegisterWords {
-        p1: P::moved_back(inv_f_of(xor(s.a2, m))),
-        a2,
-        a3: xor(xor(s.p1, a2), m),
+// Register by register.
+impl<P: Permutation> BitXor for RegisterWords<P> {
+    type Output = RegisterWords<P>;
+
+    ghost bitxor_gives = { λ s t r. regs P.sigma r ≡ regs P.sigma s ⊞ regs P.sigma t };
+
+    fn bitxor(self, t: RegisterWords<P>) -> RegisterWords<P> {
+        RegisterWords {
+            p1: self.p1 ^ t.p1,
+            a2: self.a2 ^ t.a2,
+            a3: self.a3 ^ t.a3,
+            permuted: PhantomData,
+        }
     }
 }
 
@@ -45,50 +121,4 @@ pub fn dummy() -> Words
     ensures { bytes result ≡ dummy_of }
 {
     Words(1, 0, 0, 0)
-}
-
-pub fn dummy_rounds<P: Permutation>(s: RegisterWords, n: u8) -> RegisterWords
-    ensures { regs P.sigma result ≡ dummy_rounds_of P.sigma n (regs P.sigma s) }
-{
-    let mut t = s;
-    for _ in 0..n {
-        t = step::<P>(t, dummy());
-    }
-    t
-}
-
-// The bytes of A1, A2 and A3.
-pub fn bytes_of_registers<P: Permutation>(s: RegisterWords) -> [[u8; 16]; 3]
-    ensures { result ≡ three_of (regs P.sigma s) }
-{
-    [bytes_of(P::moved(s.p1)), bytes_of(s.a2), bytes_of(s.a3)]
-}
-
-// Exclusive or, register by register.
-pub fn xor_registers<P: Permutation>(s: RegisterWords, t: RegisterWords) -> RegisterWords
-    ensures { regs P.sigma result ≡ regs P.sigma s ⊞ regs P.sigma t }
-{
-    RegisterWords {
-        p1: xor(s.p1, t.p1),
-        a2: xor(s.a2, t.a2),
-        a3: xor(s.a3, t.a3),
-    }
-}
-
-pub fn mixed<P: Permutation>(s: RegisterWords) -> RegisterWords
-    ensures { regs P.sigma result ≡ mixed_of P.sigma (regs P.sigma s) }
-{
-    xor_registers::<P>(dummy_rounds::<P>(s, 9), s)
-}
-
-// Key and IV in their registers.
-pub fn keyed<P: Permutation>(key: &[u8; 32], iv: &[u8; 16]) -> RegisterWords
-    ensures { regs P.sigma result ≡ keyed_of key.now iv.now }
-{
-    let (halves, _) = key.as_chunks::<16>();
-    RegisterWords {
-        p1: P::moved_back(words_of(&halves[1])),
-        a2: words_of(&halves[0]),
-        a3: words_of(iv),
-    }
 }

@@ -4,22 +4,21 @@ use Rattle.refusals.specs.declared.Refusal.{Refusal}
 use Rattle.rounds.specs.Reach.{Near}
 use Rattle.mode.specs.Rules.{Rule, State, Lawful, Good, at_first}
 use Rattle.tags.specs.Tags.{Closed}
+use Rattle.keys.specs.Keys.{iv_of}
+use Rattle.keys.specs.declared.state.Serial.{Serial}
 use Rattle.message.specs.Framing.{message}
 use Rattle.run.specs.Calls.{closed_of}
 use Rattle.laws.specs.Runs.{Call, took, refused, accepted, Run, Stands, ExactlyWhen}
-use Rattle.replay.specs.declared.state.Answer.{Answer}
-use Rattle.replay.specs.declared.state.Answer.TheVariants.{Taken, Refused}
 use Rattle.replay.specs.declared.state.Replayed.{Replayed}
+
+-- how a piece was answered
+abbrev pub Answer : Type 0
+Answer = Result (Unit {0}) Refusal
 
 -- a piece with its answer
 abbrev pub call : List ℕ → Answer → Call
-call p Taken = took p
-call p (Refused e) = refused p e
-
--- the answer that a call's result is
-abbrev pub answer_of : Result (Unit {0}) Refusal → Answer
-answer_of (Ok _) = Taken
-answer_of (Err e) = Refused e
+call p (Ok _) = took p
+call p (Err e) = refused p e
 
 -- pieces with their answers, one for each
 pub data Answered : List (List ℕ) → List Answer → List Call → Type 0 where
@@ -49,3 +48,10 @@ module _ {M S : Type 0} (rule : M → Rule) (state : M → State) where
         Near r.reach (message r (accepted first.header_calls) (accepted first.body_calls)) (message r (accepted second.header_calls) (accepted second.body_calls))
         → ExactlyWhen ((closed_of rule state one.run).state.regs ≡ (closed_of rule state two.run).state.regs)
         ((accepted first.header_calls ≡ accepted second.header_calls) × (accepted first.body_calls ≡ accepted second.body_calls))
+
+  -- the same, under a key and a serial
+  abbrev pub ReplaysUnder : Rule → List ℕ → Serial → ℕ → List (List ℕ) → List (List ℕ) → Replayed M S → Type 0
+  ReplaysUnder r key serial ceiling header body done = ReplaysAs r (r.load key (iv_of serial.office serial.number)) ceiling header body done
+
+  abbrev pub BothUnder : Rule → List ℕ → Serial → ℕ → List (List ℕ) → List (List ℕ) → List (List ℕ) → List (List ℕ) → Replayed M S → Replayed M S → Type 0
+  BothUnder r key serial ceiling header₁ body₁ header₂ body₂ one two = Both r (r.load key (iv_of serial.office serial.number)) ceiling header₁ body₁ header₂ body₂ one two

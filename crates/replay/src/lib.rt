@@ -5,17 +5,14 @@ pub mod state;
 
 ghost use Rattle.std.specs.Prelude.{◌≡◌, ◌<◌, List, map, IfOk};
 ghost use Rattle.aes.specs.Blocks.{Bytes};
-ghost use Rattle.keys.specs.Keys.{iv_of};
-ghost use Rattle.run.specs.Calls.{Piece, BodyPiece, header_of, body_of};
 ghost use Rattle.laws.specs.Runs.{Call, Pieces};
-ghost use Rattle.replay.specs.Replays.{answer_of, Answered, ReplaysAs, Both};
+ghost use Rattle.replay.specs.Replays.{Answered, ReplaysUnder, BothUnder};
 
-use crate::state::{Answer, Pieces as Handed, Replayed};
-use counts::state::Ceiling;
-use keys::state::KeySlot;
+use crate::state::{Pieces as Handed, Replayed, Start};
 use mode::Mode;
 use refusals::Refusal;
-use run::state::{BodyRun, HeaderRun};
+use run::pieces::TakesPieces;
+use run::state::HeaderRun;
 use std::alloc::{AllocError, Global};
 
 // What the type says of a piece, for proofs to cite.
@@ -27,43 +24,18 @@ fn are_bytes(piece: &[u8])
     }
 }
 
-fn answered(res: Result<(), Refusal>) -> Answer
-    ensures { result ≡ answer_of res }
-{
-    match res {
-        Ok(()) => Answer::Taken,
-        Err(refusal) => Answer::Refused(refusal),
-    }
-}
-
-fn header_pieces<M: Mode>(
+// Hands pieces in, one after another, at the header or at the body.
+fn hand<R: TakesPieces>(
     heap: Global,
-    run: &mut HeaderRun<M>,
+    run: &mut R,
     pieces: &[&[u8]],
-) -> Result<Vec<Answer>, AllocError>
-    ensures { IfOk result (λ v. (calls : List Call) × Answered (map (λ x. x.now) pieces.now) v.items calls × Pieces Piece (header_of M.rule M.state run.old) calls (header_of M.rule M.state run.new)) }
+) -> Result<Vec<Result<(), Refusal>>, AllocError>
+    ensures { IfOk result (λ v. (calls : List Call) × Answered (map (λ x. x.now) pieces.now) v.items calls × Pieces R.takes run.old calls run.new) }
 {
     let mut answers = Vec::new(heap);
     for piece in pieces {
         are_bytes(piece);
-        let answer = answered(run.header_piece(piece));
-        answers.push(answer)?;
-    }
-    Ok(answers)
-}
-
-fn body_pieces<M: Mode>(
-    heap: Global,
-    run: &mut BodyRun<M>,
-    pieces: &[&[u8]],
-) -> Result<Vec<Answer>, AllocError>
-    ensures { IfOk result (λ v. (calls : List Call) × Answered (map (λ x. x.now) pieces.now) v.items calls × Pieces BodyPiece (body_of M.rule M.state run.old) calls (body_of M.rule M.state run.new)) }
-{
-    let mut answers = Vec::new(heap);
-    for piece in pieces {
-        are_bytes(piece);
-        let answer = answered(run.body_piece(piece));
-        answers.push(answer)?;
+        answers.push(run.piece(piece))?;
     }
     Ok(answers)
 }
@@ -71,48 +43,35 @@ fn body_pieces<M: Mode>(
 // Performs begin, header pieces, turn, body pieces, close, and promises of them what the law of runs says.
 pub fn replay<M: Mode>(
     heap: Global,
-    setup: M::Setup,
-    key: &KeySlot,
-    ceiling: Ceiling,
-    office: u32,
-    serial: u64,
-    header: &[&[u8]],
-    body: &[&[u8]],
+    start: &Start<'_, M>,
+    pieces: &Handed<'_>,
 ) -> Result<Replayed<M>, AllocError>
-    ensures { IfOk result (λ done. ReplaysAs M.rule M.state (M.chosen setup key.now.bytes) ((M.chosen setup key.now.bytes).load key.now.bytes (iv_of office serial)) ceiling.most.value
-        (map (λ x. x.now) header.now) (map (λ x. x.now) body.now) done) }
+    ensures { IfOk result (λ done. ReplaysUnder M.rule M.state (M.chosen start.now.setup start.now.key.now.bytes) start.now.key.now.bytes start.now.serial start.now.ceiling.most.value
+        (map (λ x. x.now) pieces.now.header.now) (map (λ x. x.now) pieces.now.body.now) done) }
 {
-    let mut run = HeaderRun::<M>::begin_receiving(setup, key, ceiling, office, serial);
-    let header_answers = header_pieces(heap, &mut run, header)?;
+    let mut run = HeaderRun::<M>::begin(start.setup, start.key, start.ceiling, start.serial);
+    let header = hand(heap, &mut run, pieces.header)?;
     let mut run = run.turn();
-    let body_answers = body_pieces(heap, &mut run, body)?;
+    let body = hand(heap, &mut run, pieces.body)?;
     Ok(Replayed {
         run: run.close(),
-        header: header_answers,
-        body: body_answers,
+        header,
+        body,
     })
 }
 
-// Performs two runs under one key, office and serial, and promises that they are told apart.
+// Performs two runs from one start, and promises that they are told apart.
 pub fn replay_both<M: Mode>(
     heap: Global,
-    setup: M::Setup,
-    key: &KeySlot,
-    ceiling: Ceiling,
-    office: u32,
-    serial: u64,
+    start: &Start<'_, M>,
     one: &Handed<'_>,
     two: &Handed<'_>,
 ) -> Result<(Replayed<M>, Replayed<M>), AllocError>
-    ensures { IfOk result (λ both. Both M.rule M.state (M.chosen setup key.now.bytes) ((M.chosen setup key.now.bytes).load key.now.bytes (iv_of office serial)) ceiling.most.value
+    ensures { IfOk result (λ both. BothUnder M.rule M.state (M.chosen start.now.setup start.now.key.now.bytes) start.now.key.now.bytes start.now.serial start.now.ceiling.most.value
         (map (λ x. x.now) one.now.header.now) (map (λ x. x.now) one.now.body.now) (map (λ x. x.now) two.now.header.now) (map (λ x. x.now) two.now.body.now)
         both.0 both.1) }
 {
-    let first = replay::<M>(
-        heap, setup, key, ceiling, office, serial, one.header, one.body,
-    )?;
-    let second = replay::<M>(
-        heap, setup, key, ceiling, office, serial, two.header, two.body,
-    )?;
+    let first = replay(heap, start, one)?;
+    let second = replay(heap, start, two)?;
     Ok((first, second))
 }

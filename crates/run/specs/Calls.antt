@@ -5,7 +5,7 @@ use Rattle.refusals.specs.Numbers.{number}
 use Rattle.mode.specs.Rules.{Rule, State, after, retraced}
 use Rattle.tags.specs.Tags.{Closed, rest}
 use Rattle.message.specs.Framing.{length_block}
-use Rattle.message.specs.Feeding.{Fed, fed, fed_of, held, flush, filled}
+use Rattle.message.specs.Feeding.{Fed, fed, fed_of, fed_in, flush, filled}
 use Rattle.run.specs.declared.state.Part.{Part}
 use Rattle.run.specs.declared.state.HeaderRun.{HeaderRun}
 use Rattle.run.specs.declared.state.BodyRun.{BodyRun}
@@ -57,7 +57,7 @@ walked_back c blocks = record { rule = c.rule; state = retraced c.rule c.state b
 -- what the structs of the code stand for
 module _ {M S : Type 0} (rule : M → Rule) (state : M → State) where
   abbrev pub part_of : Part M S → Open
-  part_of p = record { rule = rule p.mode; fed = fed_of (state p.mode) (held p.pending); count = p.count.value; ceiling = p.ceiling.most.value }
+  part_of p = record { rule = rule p.framing.mode; fed = fed_in state p.framing; count = p.count.value; ceiling = p.ceiling.most.value }
 
   abbrev pub header_of : HeaderRun M S → Open
   header_of h = part_of h.part

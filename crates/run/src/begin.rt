@@ -8,38 +8,22 @@ ghost use Rattle.run.specs.Calls.{begun, header_of};
 
 use crate::state::{HeaderRun, Part};
 use counts::state::Ceiling;
-use keys::iv;
-use keys::state::{DrawnSerial, KeySlot};
+use keys::Numbered;
+use keys::state::KeySlot;
 use mode::Mode;
 use singles::state::Smac1;
 
 impl<M: Mode> HeaderRun<M> {
-    // The drawn serial is spent.
-    pub fn begin_sending(
+    // Under a serial that was drawn, which is spent, or one as received.
+    pub fn begin<S: Numbered>(
         setup: M::Setup,
         key: &KeySlot,
         ceiling: Ceiling,
-        serial: DrawnSerial,
+        serial: S,
     ) -> HeaderRun<M>
-        ensures { header_of M.rule M.state result ≡ begun (M.chosen setup key.now.bytes) (loaded (M.chosen setup key.now.bytes) key.now.bytes (iv_of serial.office serial.number)) ceiling.most.value }
+        ensures { header_of M.rule M.state result ≡ begun (M.chosen setup key.now.bytes) (loaded (M.chosen setup key.now.bytes) key.now.bytes (iv_of (S.numbered serial).office (S.numbered serial).number)) ceiling.most.value }
     {
-        let mode = M::load(setup, key.bytes(), &serial.iv());
-        HeaderRun {
-            part: Part::<M>::over(mode, ceiling),
-        }
-    }
-
-    // Office and serial as received.
-    pub fn begin_receiving(
-        setup: M::Setup,
-        key: &KeySlot,
-        ceiling: Ceiling,
-        office: u32,
-        serial: u64,
-    ) -> HeaderRun<M>
-        ensures { header_of M.rule M.state result ≡ begun (M.chosen setup key.now.bytes) (loaded (M.chosen setup key.now.bytes) key.now.bytes (iv_of office serial)) ceiling.most.value }
-    {
-        let mode = M::load(setup, key.bytes(), &iv(office, serial));
+        let mode = M::load(setup, key.bytes(), &serial.serial().iv());
         HeaderRun {
             part: Part::<M>::over(mode, ceiling),
         }

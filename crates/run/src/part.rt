@@ -4,7 +4,7 @@ ghost use Rattle.run.specs.Calls.{Piece, begun, part_of};
 
 use crate::state::Part;
 use counts::state::{ByteCount, Ceiling};
-use message::{feeding, pending};
+use message::state::Framing;
 use mode::Mode;
 use refusals::Refusal;
 
@@ -14,8 +14,7 @@ impl<M: Mode> Part<M> {
         ensures { part_of M.rule M.state result ≡ begun (M.rule mode) (M.state mode) ceiling.most.value }
     {
         Part {
-            mode,
-            pending: pending::none(),
+            framing: Framing::<M>::over(mode),
             count: ByteCount::none(),
             ceiling,
         }
@@ -28,7 +27,7 @@ impl<M: Mode> Part<M> {
         let Some(count) = self.count.more(piece.len(), self.ceiling) else {
             return Err(Refusal::PastCeiling);
         };
-        feeding::feed(&mut self.mode, &mut self.pending, piece);
+        self.framing.feed(piece);
         self.count = count;
         Ok(())
     }

@@ -1,13 +1,12 @@
 // The states of a run.
 use counts::state::{ByteCount, Ceiling};
-use message::state::Pending;
+use message::state::Framing;
 use mode::Mode;
 
 // A part under way: the header, or the body.
 #[derive(Drop)]
 pub struct Part<M: Mode> {
-    pub(crate) mode: M,
-    pub(crate) pending: Pending,
+    pub(crate) framing: Framing<M>,
     pub(crate) count: ByteCount,
     pub(crate) ceiling: Ceiling,
 }

@@ -1,11 +1,10 @@
 -- A run over header and ciphertext closes where the section's tag is taken.
-use Rattle.std.proofs.Common.{◌≡◌, ℕ, ◌^◌, ◌<◌, List, [], ◌∷◌, length, Ok, ap, ◌∙◌, subst, ap₂, append-nil, arith}
+use Rattle.std.proofs.Common.{◌≡◌, ℕ, ◌^◌, ◌<◌, List, [], ◌∷◌, Ok, ap, ◌∙◌, subst, ap₂, append-nil, arith}
 use Rattle.std.proofs.lemmas.List.{take-take}
 use Rattle.aes.specs.Blocks.{Bytes}
 use Rattle.mode.specs.Rules.{at_first, absorbed}
 use Rattle.smac.specs.Smac.{smac1}
-use Rattle.tags.specs.declared.state.Verdict.{Verdict}
-use Rattle.tags.specs.Tags.{Closed, tag_bytes, Tagged, Says, Compared}
+use Rattle.tags.specs.Tags.{Closed, tag_bytes}
 use Rattle.message.specs.Framing.{message}
 use Rattle.run.specs.Calls.{Open, OpenBody, begun, Piece, turned, BodyPiece, closed}
 use Rattle.laws.specs.Runs.{Pieces, Run, took, none, more}
@@ -37,19 +36,7 @@ closes z header ciphertext w₀ w₁ w₂ ceiling first headed turning bodied en
     run_leads smac1 regs ceiling (took header ∷ []) (took ciphertext ∷ []) end run
     ∙ ap₂ (λ h c. record { rule = smac1; state = absorbed smac1 (at_first regs) (message smac1 h c) }) (append-nil header) (append-nil ciphertext)
 
-module _ (z : ℕ → List ℕ) (header ciphertext : List ℕ) where
-  -- its tag of sixteen bytes is the section's
-  sixteen : tag_bytes (closing z header ciphertext) 16 ≡ section_tag z header ciphertext
-  unfolding section_tag
-  sixteen = take-take 16 16 _ (omega arith)
-
-  tag_of_length : (n : ℕ) → n ≡ 16 → tag_bytes (closing z header ciphertext) n ≡ section_tag z header ciphertext
-  tag_of_length n e = ap (tag_bytes (closing z header ciphertext)) e ∙ sixteen
-
-  pub tag_written : (end : Closed) (old new : List ℕ) → end ≡ closing z header ciphertext → length old ≡ 16 → Tagged end old (Ok tt) new → new ≡ section_tag z header ciphertext
-  tag_written end old new e n t = (subst (λ (k : Closed). Tagged k old (Ok tt) new) e t).1 ∙ tag_of_length (length old) n
-
-  pub tag_judged : (end : Closed) (received : List ℕ) (n left : ℕ) (v : Verdict) → end ≡ closing z header ciphertext → length received ≡ 16 → Compared end received n (Ok v) left
-      → Says v (received ≡ section_tag z header ciphertext)
-  tag_judged end received n left v e long t =
-      subst (λ (tag : List ℕ). Says v (received ≡ tag)) (tag_of_length (length received) long) (subst (λ (k : Closed). Compared k received n (Ok v) left) e t).2
+-- its tag of sixteen bytes is the section's
+pub sixteen : (z : ℕ → List ℕ) (header ciphertext : List ℕ) (end : Closed) → end ≡ closing z header ciphertext → tag_bytes end 16 ≡ section_tag z header ciphertext
+unfolding section_tag
+sixteen z header ciphertext end e = ap (λ k. tag_bytes k 16) e ∙ take-take 16 16 _ (omega arith)

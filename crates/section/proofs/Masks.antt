@@ -4,6 +4,7 @@ use lib.Bits.{bit_xor, xor_assoc, xor_self, xor_zero_r}
 use borrow.Rule.Slice.PartMut.{put_mid}
 use Rattle.std.proofs.lemmas.List.{drop_more, drop-drop, drop_all, take-append-drop, length-take-le, length-drop, append_assoc}
 use Rattle.std.proofs.lemmas.Slice.{take-put_mid}
+use Rattle.std.specs.Simd.{first_chunks}
 use Rattle.aes.specs.Blocks.{◌⊕◌}
 use Rattle.section.specs.Sections.{mask_byte, masked_from, masked}
 
@@ -20,6 +21,14 @@ get_or_cut [] w i h l = absurd (not-suc-le-zero h)
 get_or_cut (x ∷ a) [] i h l = absurd (not-suc-le-zero l)
 get_or_cut (x ∷ a) (y ∷ w) zero h l = refl
 get_or_cut (x ∷ a) (y ∷ w) (suc i) h l = get_or_cut a w i (le_of_suc-le-suc h) (le_of_suc-le-suc l)
+
+-- the whole blocks of a list
+pub chunk_at : (k j : ℕ) (xs : List ℕ) → j < k → k * 16 ≤ length xs → get_or (first_chunks 16 k xs) j [] ≡ take 16 (drop (16 * j) xs)
+chunk_at zero j xs h l = absurd (omega arith)
+chunk_at (suc k) zero xs h l = refl
+chunk_at (suc k) (suc j) xs h l =
+    let e : 16 * suc j ≡ 16 + 16 * j = omega arith in
+    chunk_at k j (drop 16 xs) (omega arith) (simp length-drop (omega arith)) ∙ ap (take 16) (drop-drop (16 * j) 16 xs ∙ ap (λ n. drop n xs) (sym e))
 
 module _ (z : ℕ → List ℕ) where
   length_masked_from : (i : ℕ) (bs : List ℕ) → length (masked_from z i bs) ≡ length bs

@@ -12,7 +12,8 @@ ghost use Rattle.section.specs.Calls.{Sealed, Opened};
 
 use crate::opening::open_under;
 use crate::sealing::seal_under;
-use keys::state::{DrawnSerial, KeySlot};
+use keys::Numbered;
+use keys::state::{DrawnSerial, KeySlot, Serial};
 use keystream::state::CounterMode;
 use refusals::Refusal;
 
@@ -25,28 +26,27 @@ pub const TAG: usize = 16;
 // Seals under a key and a drawn serial, which is spent whatever comes.
 pub fn seal(
     key: &KeySlot,
-    serial: DrawnSerial,
+    drawn: DrawnSerial,
     header: &[u8],
     body: &[u8],
     out: &mut [u8],
 ) -> Result<(), Refusal>
-    ensures { Sealed (keystream key.now.bytes serial.office serial.number) header.now body.now out.old result out.new }
+    ensures { Sealed (keystream key.now.bytes drawn.serial.office drawn.serial.number) header.now body.now out.old result out.new }
 {
-    let keys = CounterMode::new(key, serial.office(), serial.number());
+    let keys = CounterMode::new(key, drawn.serial());
     seal_under(&keys, header, body, out)
 }
 
-// Opens under a key, and an office and a serial as received.
+// Opens under a key and a serial as received.
 pub fn open(
     key: &KeySlot,
-    office: u32,
-    serial: u64,
+    serial: Serial,
     header: &[u8],
     section: &[u8],
     out: &mut [u8],
 ) -> Result<(), Refusal>
-    ensures { Opened (keystream key.now.bytes office serial) header.now section.now out.old result out.new }
+    ensures { Opened (keystream key.now.bytes serial.office serial.number) header.now section.now out.old result out.new }
 {
-    let keys = CounterMode::new(key, office, serial);
+    let keys = CounterMode::new(key, serial);
     open_under(&keys, header, section, out)
 }

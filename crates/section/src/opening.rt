@@ -3,7 +3,7 @@ ghost use Rattle.section.specs.Calls.{Opened};
 
 use crate::guard::Guard;
 use crate::masking::mask;
-use crate::tagging::verify;
+use crate::tagging::{closing, verify};
 use crate::{LARGEST, TAG};
 use keystream::Keystream;
 use refusals::Refusal;
@@ -25,9 +25,9 @@ pub fn open_under<K: Keystream>(
         return Err(Refusal::OutputLength);
     }
     let (ciphertext, tag) = section.split_at(len - TAG);
-    let mut guard = Guard { out, keep: false };
+    let guard = Guard { out };
     mask(keys, ciphertext, guard.out);
-    verify(keys, header, ciphertext, tag)?;
-    guard.keep = true;
+    verify(&closing(keys, header, ciphertext), tag)?;
+    guard.keep();
     Ok(())
 }

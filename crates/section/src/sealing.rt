@@ -2,7 +2,7 @@
 ghost use Rattle.section.specs.Calls.{Sealed};
 
 use crate::masking::mask;
-use crate::tagging::section_tag;
+use crate::tagging::{closing, section_tag};
 use crate::{LARGEST, TAG};
 use keystream::Keystream;
 use refusals::Refusal;
@@ -24,7 +24,7 @@ pub fn seal_under<K: Keystream>(
         return Err(Refusal::OutputLength);
     }
     mask(keys, body, &mut out[0..len]);
-    let tag = section_tag(keys, header, &out[0..len]);
-    out[len..].copy_from_slice(&tag);
+    let run = closing(keys, header, &out[0..len]);
+    out[len..].copy_from_slice(&section_tag(&run));
     Ok(())
 }

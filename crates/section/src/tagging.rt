@@ -2,8 +2,9 @@
 ghost use Rattle.std.specs.Prelude.{◌≡◌, ◌≤◌, length};
 ghost use Rattle.smac.specs.Smac.{smac1};
 ghost use Rattle.singles.specs.States.{state1};
+ghost use Rattle.tags.specs.Tags.{tag_bytes};
 ghost use Rattle.run.specs.Calls.{closed_of};
-ghost use Rattle.section.specs.Sections.{closing_state, section_tag as section_tag_of};
+ghost use Rattle.section.specs.Sections.{closing_state};
 ghost use Rattle.section.specs.Calls.{Verified};
 
 use counts::state::Ceiling;
@@ -13,7 +14,8 @@ use run::state::{ClosedRun, HeaderRun};
 use singles::state::Smac1;
 use tags::state::{Allowance, Verdict};
 
-fn closing<K: Keystream>(keys: &K, header: &[u8], ciphertext: &[u8]) -> ClosedRun<Smac1>
+// The run over both parts, closed.
+pub(crate) fn closing<K: Keystream>(keys: &K, header: &[u8], ciphertext: &[u8]) -> ClosedRun<Smac1>
     requires { (length header.now ≤ 1048576) × (length ciphertext.now ≤ 1048576) }
     ensures { closed_of (λ _. smac1) state1 result ≡ record { rule = smac1; state = closing_state (K.words keys.now) header.now ciphertext.now } }
 {
@@ -33,30 +35,23 @@ fn closing<K: Keystream>(keys: &K, header: &[u8], ciphertext: &[u8]) -> ClosedRu
     run.close()
 }
 
-// The tag itself, to be written.
-pub(crate) fn section_tag<K: Keystream>(keys: &K, header: &[u8], ciphertext: &[u8]) -> [u8; 16]
-    requires { (length header.now ≤ 1048576) × (length ciphertext.now ≤ 1048576) }
-    ensures { result ≡ section_tag_of (K.words keys.now) header.now ciphertext.now }
+// Its tag, to be written.
+pub(crate) fn section_tag(run: &ClosedRun<Smac1>) -> [u8; 16]
+    ensures { result ≡ tag_bytes (closed_of (λ _. smac1) state1 run.now) 16 }
 {
     let mut tag = [0; 16];
-    let Ok(()) = closing(keys, header, ciphertext).tag(&mut tag) else {
+    let Ok(()) = run.tag(&mut tag) else {
         unreachable()
     };
     tag
 }
 
-// Whether a received tag is the one that belongs to header and ciphertext: the one comparison that a section is allowed.
-pub(crate) fn verify<K: Keystream>(
-    keys: &K,
-    header: &[u8],
-    ciphertext: &[u8],
-    received: &[u8],
-) -> Result<(), Refusal>
-    requires { (length header.now ≤ 1048576) × ((length ciphertext.now ≤ 1048576) × (length received.now ≡ 16)) }
-    ensures { Verified (received.now ≡ section_tag_of (K.words keys.now) header.now ciphertext.now) result }
+// Whether a received tag is the one that belongs to it: the one comparison that a section is allowed.
+pub(crate) fn verify(run: &ClosedRun<Smac1>, received: &[u8]) -> Result<(), Refusal>
+    requires { length received.now ≡ 16 }
+    ensures { Verified (received.now ≡ tag_bytes (closed_of (λ _. smac1) state1 run.now) 16) result }
 {
-    let mut allowance = Allowance::new(1);
-    let Ok(verdict) = closing(keys, header, ciphertext).compare(received, &mut allowance) else {
+    let Ok(verdict) = run.compare(received, &mut Allowance::new(1)) else {
         unreachable()
     };
     match verdict {

@@ -1,6 +1,6 @@
 // Sections against vectors, damaged sections, and sizes.
 use crate::tables::VECTORS;
-use keys::state::{DrawnSerial, KeySlot, SerialBook};
+use keys::state::{DrawnSerial, KeySlot, Serial, SerialBook};
 use refusals::Refusal;
 use section::{open, seal};
 use std::alloc::Global;
@@ -13,8 +13,13 @@ fn slot(key: &[u8]) -> Result<KeySlot, Refusal> {
     Ok(slot)
 }
 
-fn drawn(office: u32, serial: u64) -> Result<DrawnSerial, Refusal> {
-    SerialBook::new(office, serial, serial).draw()
+fn drawn(serial: Serial) -> Result<DrawnSerial, Refusal> {
+    SerialBook::new(serial.office, serial.number, serial.number).draw()
+}
+
+// A serial of office 7.
+fn of_seven(number: u64) -> Serial {
+    Serial { office: 7, number }
 }
 
 #[test]
@@ -23,16 +28,10 @@ fn vectors(rt: HostRuntime) -> Result<(), Fail> {
     for v in &VECTORS {
         let key = slot(v.key)?;
         let mut sealed = vec![in heap; 0u8; v.section.len()]?;
-        seal(
-            &key,
-            drawn(v.office, v.serial)?,
-            v.header,
-            v.body,
-            &mut sealed,
-        )?;
+        seal(&key, drawn(v.serial)?, v.header, v.body, &mut sealed)?;
         assert!(rt; sealed.as_slice() == v.section);
         let mut opened = vec![in heap; 0u8; v.body.len()]?;
-        open(&key, v.office, v.serial, v.header, v.section, &mut opened)?;
+        open(&key, v.serial, v.header, v.section, &mut opened)?;
         assert!(rt; opened.as_slice() == v.body);
     }
     Ok(())
@@ -44,13 +43,21 @@ fn every_bit(rt: HostRuntime) -> Result<(), Fail> {
     let key = slot(b"sixteen or more.")?;
     let header = b"office 7, May";
     let mut sealed = [0; 27];
-    seal(&key, drawn(7, 1)?, header, b"net 1234.56", &mut sealed)?;
-    for i in 0..27 {
+    seal(
+        &key,
+        drawn(of_seven(1))?,
+        header,
+        b"net 1234.56",
+        &mut sealed,
+    )?;
+    // The place is what is damaged, in a copy, so no iterator over the bytes serves.
+    for place in 0..sealed.len() {
+        // Written out: at `1 << bit` the proof of the cast stayed open.
         for bit in [1, 2, 4, 8, 16, 32, 64, 128] {
             let mut damaged = sealed;
-            damaged[i] ^= bit;
+            damaged[place] ^= bit;
             let mut out = [1; 11];
-            let answer = open(&key, 7, 1, header, &damaged, &mut out);
+            let answer = open(&key, of_seven(1), header, &damaged, &mut out);
             assert!(rt; answer == Err(Refusal::TagMismatch));
             assert!(rt; out == [0; 11]);
         }
@@ -64,9 +71,9 @@ fn there_and_back(rt: &impl Abort, heap: Global, len: u32) -> Result<(), Fail> {
     let len = len as usize;
     let body = vec![in heap; 0x5a; len]?;
     let mut sealed = vec![in heap; 0; len + 16]?;
-    seal(&key, drawn(7, 2)?, b"header", &body, &mut sealed)?;
+    seal(&key, drawn(of_seven(2))?, b"header", &body, &mut sealed)?;
     let mut opened = vec![in heap; 0; len]?;
-    open(&key, 7, 2, b"header", &sealed, &mut opened)?;
+    open(&key, of_seven(2), b"header", &sealed, &mut opened)?;
     assert!(rt; opened.as_slice() == body.as_slice());
     Ok(())
 }
@@ -87,14 +94,14 @@ fn too_large(rt: HostRuntime) -> Result<(), Fail> {
     let key = slot(b"sixteen or more.")?;
     let long = vec![in heap; 0; 1_048_577]?;
     let mut sealed = vec![in heap; 7; 1_048_593]?;
-    let answer = seal(&key, drawn(7, 3)?, b"", &long, &mut sealed);
+    let answer = seal(&key, drawn(of_seven(3))?, b"", &long, &mut sealed);
     assert!(rt; answer == Err(Refusal::TooLarge));
     let mut small = [7; 16];
-    let answer = seal(&key, drawn(7, 4)?, &long, b"", &mut small);
+    let answer = seal(&key, drawn(of_seven(4))?, &long, b"", &mut small);
     assert!(rt; answer == Err(Refusal::TooLarge));
     assert!(rt; small == [7; 16]);
     let mut out = vec![in heap; 7; 1_048_577]?;
-    let answer = open(&key, 7, 3, b"", &sealed, &mut out);
+    let answer = open(&key, of_seven(3), b"", &sealed, &mut out);
     assert!(rt; answer == Err(Refusal::TooLarge));
     assert!(rt; out.as_slice()[0] == 7);
     Ok(())

@@ -5,45 +5,66 @@ mod tables;
 
 ghost use Rattle.std.specs.Prelude.{◌≡◌};
 ghost use Rattle.aes.specs.Blocks.{Order, moved as moved_by};
-ghost use Rattle.aes.specs.Round.{F};
 ghost use Rattle.rounds.specs.Round.{Sigma, Undone};
 ghost use Rattle.rounds.specs.Permutations.{sigma1, sigma34, sigma12};
 ghost use Rattle.words.specs.Words.{bytes};
 ghost use Rattle.rounds.proofs.Permutations.{sigma1_undone, sigma34_undone, sigma12_undone};
 
-use columns::column;
 use tables::{PI_1, PI_12, PI_12_BACK, PI_34, PI_34_BACK};
-use words::{Words, bytes_of, words_of};
+use words::Words;
 
 pub trait Permutation {
     ghost sigma: { Sigma };
 
+    // the order that sigma puts bytes in, and the one that undoes it
+    fn there() -> [u8; 16]
+        ensures { result ≡ sigma.there };
+
+    fn back() -> [u8; 16]
+        ensures { result ≡ sigma.back };
+
     // sigma
     fn moved(x: Words) -> Words
-        ensures { bytes result ≡ moved_by sigma.there (bytes x) };
+        ensures { bytes result ≡ moved_by sigma.there (bytes x) }
+    {
+        ordered(&Self::there(), x)
+    }
 
     // what undoes sigma
     fn moved_back(x: Words) -> Words
-        ensures { bytes result ≡ moved_by sigma.back (bytes x) };
-
-    // F after sigma: sigma itself costs nothing, since F looks its bytes up at the permuted places
-    fn f_of_moved(x: Words) -> Words
-        ensures { bytes result ≡ F (moved_by sigma.there (bytes x)) };
+        ensures { bytes result ≡ moved_by sigma.back (bytes x) }
+    {
+        ordered(&Self::back(), x)
+    }
 
     ghost undone: { Undone sigma };
 }
 
-// Byte `order[i]` at each place i.
+// Byte `order[i]` at each place i. Written out, since places that are constants then cost nothing before `f`; with `map` a round takes five times as long.
+#[tactic(auto, using(crate::proofs::Orders::place_below))]
 fn ordered(order: &[u8; 16], x: Words) -> Words
     requires { Order order.now }
     ensures { bytes result ≡ moved_by order.now (bytes x) }
 {
-    let b = bytes_of(x);
-    let mut out = [0; 16];
-    for i in 0..16 {
-        out[i] = b[order[i] as usize];
-    }
-    words_of(&out)
+    let b = x.to_bytes();
+    Words::from(&[
+        b[order[0] as usize],
+        b[order[1] as usize],
+        b[order[2] as usize],
+        b[order[3] as usize],
+        b[order[4] as usize],
+        b[order[5] as usize],
+        b[order[6] as usize],
+        b[order[7] as usize],
+        b[order[8] as usize],
+        b[order[9] as usize],
+        b[order[10] as usize],
+        b[order[11] as usize],
+        b[order[12] as usize],
+        b[order[13] as usize],
+        b[order[14] as usize],
+        b[order[15] as usize],
+    ])
 }
 
 // SMAC-1's and SMAC-1×n's.
@@ -54,25 +75,12 @@ impl Permutation for Whole {
 
     ghost undone = { sigma1_undone };
 
-    fn moved(x: Words) -> Words {
-        ordered(&PI_1, x)
+    fn there() -> [u8; 16] {
+        PI_1
     }
 
-    fn moved_back(x: Words) -> Words {
-        ordered(&PI_1, x)
-    }
-
-    fn f_of_moved(x: Words) -> Words {
-        let [x0, x1, x2, x3] = x.0.to_le_bytes();
-        let [x4, x5, x6, x7] = x.1.to_le_bytes();
-        let [x8, x9, x10, x11] = x.2.to_le_bytes();
-        let [x12, x13, x14, x15] = x.3.to_le_bytes();
-        Words(
-            column(x0, x13, x6, x9),
-            column(x4, x15, x2, x11),
-            column(x8, x5, x14, x1),
-            column(x12, x7, x10, x3),
-        )
+    fn back() -> [u8; 16] {
+        PI_1
     }
 }
 
@@ -84,25 +92,12 @@ impl Permutation for ThreeQuarters {
 
     ghost undone = { sigma34_undone };
 
-    fn moved(x: Words) -> Words {
-        ordered(&PI_34, x)
+    fn there() -> [u8; 16] {
+        PI_34
     }
 
-    fn moved_back(x: Words) -> Words {
-        ordered(&PI_34_BACK, x)
-    }
-
-    fn f_of_moved(x: Words) -> Words {
-        let [x0, x1, x2, x3] = x.0.to_le_bytes();
-        let [x4, x5, x6, x7] = x.1.to_le_bytes();
-        let [x8, x9, x10, x11] = x.2.to_le_bytes();
-        let [x12, x13, x14, x15] = x.3.to_le_bytes();
-        Words(
-            column(x7, x13, x1, x9),
-            column(x12, x6, x2, x10),
-            column(x4, x11, x15, x0),
-            column(x8, x14, x3, x5),
-        )
+    fn back() -> [u8; 16] {
+        PI_34_BACK
     }
 }
 
@@ -114,24 +109,11 @@ impl Permutation for Half {
 
     ghost undone = { sigma12_undone };
 
-    fn moved(x: Words) -> Words {
-        ordered(&PI_12, x)
+    fn there() -> [u8; 16] {
+        PI_12
     }
 
-    fn moved_back(x: Words) -> Words {
-        ordered(&PI_12_BACK, x)
-    }
-
-    fn f_of_moved(x: Words) -> Words {
-        let [x0, x1, x2, x3] = x.0.to_le_bytes();
-        let [x4, x5, x6, x7] = x.1.to_le_bytes();
-        let [x8, x9, x10, x11] = x.2.to_le_bytes();
-        let [x12, x13, x14, x15] = x.3.to_le_bytes();
-        Words(
-            column(x0, x4, x8, x12),
-            column(x6, x3, x10, x14),
-            column(x9, x2, x7, x15),
-            column(x13, x11, x1, x5),
-        )
+    fn back() -> [u8; 16] {
+        PI_12_BACK
     }
 }

@@ -4,8 +4,6 @@
 ghost use Rattle.smac.specs.Laws.{ModesAreLawful};
 
 // Each of the four modes keeps the laws of a mode, with its number of registers, its reach and its largest tag.
-pub fn modes_are_lawful() -> u8
+pub fn modes_are_lawful()
     ensures { ModesAreLawful }
-{
-    0
-}
+{}

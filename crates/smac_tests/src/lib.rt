@@ -1,7 +1,7 @@
 // SMAC against its published vectors and values of an independent implementation.
 #![tactic(auto)]
 
-mod hexadecimal;
+#[cfg(test)]
 mod tables;
 #[cfg(test)]
 mod tests;

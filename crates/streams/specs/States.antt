@@ -10,7 +10,7 @@ use Rattle.registers.specs.Registers.{regs}
 use Rattle.streams.specs.declared.state.Smac1xN.{Smac1xN}
 
 abbrev pub state1x : Smac1xN → State
-state1x m = record { regs = flat (map (regs sigma1) (take m.count m.streams)); place = m.place }
+state1x m = record { regs = flat (map (regs sigma1) (take m.count.n m.streams)); place = m.place }
 
 -- a count is refused outside 1 to 16, and otherwise is that number
 abbrev pub Counted : ℕ → Result StreamCount Refusal → Type 0

@@ -1,84 +1,30 @@
 // SMAC-1×n.
 #![tactic(auto)]
 
+pub mod count;
 pub mod state;
 
-ghost use Rattle.std.specs.Prelude.{◌≡◌, ◌<◌, ◌≤◌, map};
-ghost use Rattle.rounds.specs.Cycle.{next, prev};
+ghost use Rattle.std.specs.Prelude.{◌≡◌, map};
 ghost use Rattle.registers.specs.Registers.{regs};
 ghost use Rattle.rounds.specs.Permutations.{sigma1};
-ghost use Rattle.smac.specs.Smac.{smac1x, patched as patched_of, stream_start, joined as joined_of};
-ghost use Rattle.streams.specs.States.{state1x, Counted};
+ghost use Rattle.smac.specs.Smac.{smac1x, joined as joined_of};
+ghost use Rattle.streams.specs.States.{state1x};
 ghost use Rattle.streams.specs.Goods.{lawful1x, good1x, short1x};
 
 use crate::state::{Smac1xN, StreamCount};
 use mode::Mode;
-use refusals::Refusal;
-use registers::{RegisterWords, dummy_rounds, keyed, step, unstep, xor_registers};
+use registers::RegisterWords;
 use sigma::Whole;
-use words::{Words, pair_of, words_of, xor};
-
-impl StreamCount {
-    // Refused outside 1 to 16.
-    pub fn new(n: u8) -> Result<StreamCount, Refusal>
-        ensures { Counted n result }
-    {
-        if n == 0 || n > 16 {
-            return Err(Refusal::ModeOrStreams);
-        }
-        Ok(StreamCount { n })
-    }
-}
-
-fn next_place(n: u8, p: u8) -> u8
-    requires { p < n }
-    ensures is { result ≡ next n p }
-    ensures within { result < n }
-{
-    if p + 1 == n { 0 } else { p + 1 }
-}
-
-fn prev_place(n: u8, p: u8) -> u8
-    requires { p < n }
-    ensures is { result ≡ prev n p }
-    ensures within { result < n }
-{
-    if p == 0 { n - 1 } else { p - 1 }
-}
-
-// The IV of stream `k` of `n`.
-fn patched(n: u8, k: u8, iv: &[u8; 16]) -> [u8; 16]
-    requires { (1 ≤ n) × ((n ≤ 16) × (k < n)) }
-    ensures { result ≡ patched_of n k iv.now }
-{
-    let mut own = *iv;
-    own[15] = 16 * (n - 1) + k;
-    own
-}
-
-// Stream `k` of `n`, loaded.
-fn start(n: u8, k: u8, key: &[u8; 32], iv: &[u8; 16]) -> RegisterWords
-    requires { (1 ≤ n) × ((n ≤ 16) × (k < n)) }
-    ensures { regs sigma1 result ≡ stream_start n key.now iv.now k }
-{
-    let own = keyed::<Whole>(key, &patched(n, k, iv));
-    let first = keyed::<Whole>(key, &patched(n, 0, iv));
-    xor_registers::<Whole>(dummy_rounds::<Whole>(own, 8), first)
-}
+use std::array;
+use words::Words;
 
 // The exclusive or of all streams, each after six dummy rounds.
-fn joined(streams: &[RegisterWords]) -> RegisterWords
+fn joined(streams: &[RegisterWords<Whole>]) -> RegisterWords<Whole>
     ensures { regs sigma1 result ≡ joined_of (map (regs sigma1) streams.now) }
 {
-    let mut sum = RegisterWords {
-        p1: Words(0, 0, 0, 0),
-        a2: Words(0, 0, 0, 0),
-        a3: Words(0, 0, 0, 0),
-    };
-    for s in streams {
-        sum = xor_registers::<Whole>(sum, dummy_rounds::<Whole>(*s, 6));
-    }
-    sum
+    streams
+        .iter()
+        .fold(RegisterWords::zero(), |sum, s| sum ^ s.dummy_rounds(6))
 }
 
 impl Mode for Smac1xN {
@@ -86,7 +32,7 @@ impl Mode for Smac1xN {
 
     ghost chosen = { λ c _. smac1x c.n };
 
-    ghost rule = { λ m. smac1x m.count };
+    ghost rule = { λ m. smac1x m.count.n };
 
     ghost state = { state1x };
 
@@ -97,31 +43,29 @@ impl Mode for Smac1xN {
     ghost short = { short1x };
 
     fn load(setup: StreamCount, key: &[u8; 32], iv: &[u8; 16]) -> Smac1xN {
-        let n = setup.n;
-        let mut streams = [RegisterWords {
-            p1: Words(0, 0, 0, 0),
-            a2: Words(0, 0, 0, 0),
-            a3: Words(0, 0, 0, 0),
-        }; 16];
-        for k in 0..n {
-            streams[k as usize] = start(n, k, key, iv);
-        }
+        let streams = array::from_fn(|k| {
+            if k < usize::from(setup.n) {
+                setup.start(k as u8, key, iv)
+            } else {
+                RegisterWords::zero()
+            }
+        });
         Smac1xN {
             streams,
-            count: n,
+            count: setup,
             place: 0,
         }
     }
 
     fn absorb(&mut self, block: &[u8; 16]) {
         let p = self.place;
-        self.streams[p as usize] = step::<Whole>(self.streams[p as usize], words_of(block));
-        self.place = next_place(self.count, p);
+        self.streams[p as usize] = self.streams[p as usize].step(Words::from(block));
+        self.place = self.count.next_place(p);
     }
 
     fn walk_back(&mut self, block: &[u8; 16]) {
-        let p = prev_place(self.count, self.place);
-        self.streams[p as usize] = unstep::<Whole>(self.streams[p as usize], words_of(block));
+        let p = self.count.prev_place(self.place);
+        self.streams[p as usize] = self.streams[p as usize].unstep(Words::from(block));
         self.place = p;
     }
 
@@ -129,7 +73,7 @@ impl Mode for Smac1xN {
         if self.place == 0 {
             0
         } else {
-            self.count - self.place
+            self.count.n - self.place
         }
     }
 
@@ -138,8 +82,8 @@ impl Mode for Smac1xN {
     }
 
     fn finish(&self) -> [u8; 32] {
-        let sum = joined(&self.streams[..self.count as usize]);
-        let r = dummy_rounds::<Whole>(sum, 8);
-        pair_of(xor(r.a2, sum.a2), Words(0, 0, 0, 0))
+        let sum = joined(&self.streams[..self.count.n as usize]);
+        let r = sum.dummy_rounds(8);
+        (r.a2 ^ sum.a2).pair_with(Words(0, 0, 0, 0))
     }
 }

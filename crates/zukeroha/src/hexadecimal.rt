@@ -1,37 +1,39 @@
 // Hexadecimal text, and the key file that is written in it.
 use crate::faults::Fault;
+use hex::FromHexError;
 use keys::state::KeySlot;
 use refusals::Refusal;
-use std::alloc::{AllocFailed, Global};
+use std::alloc::{AllocError, Global};
 use std::fs::File;
 use std::io::Read;
 use std::{fmt, io};
+use thiserror::Error;
 
 // Why text is not hexadecimal.
-#[derive(Clone, Copy)]
+#[derive(Clone, Copy, Debug, Error)]
 pub enum NotHex {
+    #[error("not hexadecimal (write two digits to a byte, 0 to 9 and a to f)")]
     Digit,
+    #[error("an odd number of digits (write two digits to a byte)")]
     HalfByte,
-    Memory,
+    #[error("out of memory")]
+    Memory(#[from(alloc)] AllocError),
 }
 
-impl<T: Drop> From<AllocFailed<T>> for NotHex {
-    fn from(_cause: AllocFailed<T>) -> NotHex {
-        NotHex::Memory
+// By hand, since it sorts the errors of `hex` into the two that are told here.
+impl From<FromHexError> for NotHex {
+    fn from(cause: FromHexError) -> NotHex {
+        match cause {
+            FromHexError::OddLength => NotHex::HalfByte,
+            FromHexError::OutOfMemory => NotHex::Memory(AllocError),
+            FromHexError::InvalidHexCharacter { .. } | FromHexError::InvalidStringLength => {
+                NotHex::Digit
+            }
+        }
     }
 }
 
-impl fmt::Display for NotHex {
-    fn fmt<W: fmt::Write>(&self, f: &mut fmt::Formatter<W>) -> fmt::Result {
-        f.write_str(match self {
-            NotHex::Digit => "not hexadecimal (write two digits to a byte, 0 to 9 and a to f)",
-            NotHex::HalfByte => "an odd number of digits (write two digits to a byte)",
-            NotHex::Memory => "out of memory",
-        })
-    }
-}
-
-// Bytes as lower-case hexadecimal.
+// Bytes as lower-case hexadecimal, written without memory, which `hex::encode` would ask for.
 #[derive(Drop)]
 pub struct Hex<'a>(pub &'a [u8]);
 
@@ -44,80 +46,35 @@ impl fmt::Display for Hex<'_> {
     }
 }
 
-fn digit(b: u8) -> Option<u8> {
-    match b {
-        b'0'..=b'9' => Some(b - b'0'),
-        b'a'..=b'f' => Some(b - b'a' + 10),
-        b'A'..=b'F' => Some(b - b'A' + 10),
-        _ => None,
-    }
-}
-
+// A form feed is no white space here.
 fn is_space(b: u8) -> bool {
     matches!(b, b' ' | b'\t' | b'\n' | b'\r')
 }
 
-// The bytes that the digits write; white space is passed over.
+// The bytes that the digits write; white space is passed over. A wrong digit is told before an odd number of them.
 pub fn bytes_of(heap: Global, text: &[u8]) -> Result<Vec<u8>, NotHex> {
-    let mut bytes = Vec::new(heap);
-    let mut first = None;
-    for b in text {
-        if is_space(*b) {
-            continue;
-        }
-        let Some(low) = digit(*b) else {
-            return Err(NotHex::Digit);
-        };
-        match first {
-            None => first = Some(low),
-            Some(high) => {
-                bytes.push(high << 4 | low)?;
-                first = None;
-            }
-        }
+    let digits: Vec<u8> = text
+        .iter()
+        .copied()
+        .filter(|b| !is_space(*b))
+        .collect(heap)?;
+    if !digits.iter().all(|b| b.is_ascii_hexdigit()) {
+        return Err(NotHex::Digit);
     }
-    if first.is_some() {
-        return Err(NotHex::HalfByte);
-    }
-    Ok(bytes)
+    Ok(hex::decode(heap, digits.as_slice())?)
 }
 
 // Why a key file gives no key.
-#[derive(Clone, Copy)]
+#[derive(Clone, Copy, Debug, Error)]
 pub enum BadKey {
-    Unread(io::Error),
+    #[error("{0}")]
+    Unread(#[from] io::Error),
+    #[error("too long for a key (write 32 to 64 digits)")]
     TooLong,
-    Text(NotHex),
-    Refused(Refusal),
-}
-
-impl From<io::Error> for BadKey {
-    fn from(cause: io::Error) -> BadKey {
-        BadKey::Unread(cause)
-    }
-}
-
-impl From<NotHex> for BadKey {
-    fn from(cause: NotHex) -> BadKey {
-        BadKey::Text(cause)
-    }
-}
-
-impl From<Refusal> for BadKey {
-    fn from(cause: Refusal) -> BadKey {
-        BadKey::Refused(cause)
-    }
-}
-
-impl fmt::Display for BadKey {
-    fn fmt<W: fmt::Write>(&self, f: &mut fmt::Formatter<W>) -> fmt::Result {
-        match self {
-            BadKey::Unread(cause) => write!(f, "{cause}"),
-            BadKey::TooLong => f.write_str("too long for a key (write 32 to 64 digits)"),
-            BadKey::Text(cause) => write!(f, "{cause}"),
-            BadKey::Refused(cause) => write!(f, "{cause}"),
-        }
-    }
+    #[error("{0}")]
+    Text(#[from] NotHex),
+    #[error("{0}")]
+    Refused(#[from] Refusal),
 }
 
 // A key file has fewer bytes than this, so that no other file is read whole by mistake.
@@ -144,8 +101,9 @@ fn key_in(rt: &HostRuntime, name: &str) -> Result<KeySlot, BadKey> {
 
 // The key that the file holds.
 pub fn key_from(rt: &HostRuntime, name: &str) -> Result<KeySlot, Fault> {
-    match key_in(rt, name) {
-        Ok(key) => Ok(key),
-        Err(cause) => Err(Fault::key(rt.alloc(), name, cause)),
-    }
+    key_in(rt, name).map_err(|cause| Fault::of_file(
+        rt.alloc(),
+        format_args!("key file {name}"),
+        cause,
+    ))
 }

@@ -2,10 +2,10 @@
 #![tactic(auto)]
 
 mod arguments;
-mod choice;
 mod faults;
 mod help;
 mod hexadecimal;
+mod name;
 mod options;
 mod progress;
 mod sections;

@@ -1,8 +1,12 @@
 // The words of the command line, read once.
-use crate::arguments::Words;
-use crate::choice::ModeChoice;
+use crate::arguments::{bytes, mode, number};
+use crate::name::Name;
 use crate::usage::Usage;
-use std::fmt;
+use keys::state::Serial;
+use modes::kinds::ModeKind;
+use std::alloc::Global;
+use std::env;
+use std::env::Args;
 
 #[derive(Drop)]
 pub enum Command {
@@ -11,15 +15,20 @@ pub enum Command {
     Section(SectionJob),
 }
 
+// What a tag and a section alike are made from.
+#[derive(Drop)]
+pub struct Basis {
+    pub key: String,
+    pub serial: Serial,
+    pub header: Option<String>,
+}
+
 // What to do with a file, all of it known.
 #[derive(Drop)]
 pub struct Job {
     pub purpose: Purpose,
-    pub mode: ModeChoice,
-    pub key: String,
-    pub office: u32,
-    pub serial: u64,
-    pub header: Option<String>,
+    pub mode: ModeKind,
+    pub basis: Basis,
     pub progress: bool,
     pub file: String,
 }
@@ -36,10 +45,7 @@ pub enum Purpose {
 #[derive(Drop)]
 pub struct SectionJob {
     pub action: Action,
-    pub key: String,
-    pub office: u32,
-    pub serial: u64,
-    pub header: Option<String>,
+    pub basis: Basis,
     pub input: String,
     pub output: String,
 }
@@ -50,121 +56,77 @@ pub enum Action {
     Open,
 }
 
-#[derive(Clone, Copy)]
-pub enum Name {
-    Mode,
-    Bytes,
-    Tag,
-    Key,
-    Office,
-    Serial,
-    Header,
-    Progress,
-}
-
-impl Name {
-    pub fn of(word: &str) -> Option<Name> {
-        match word {
-            "--mode" => Some(Name::Mode),
-            "--bytes" => Some(Name::Bytes),
-            "--tag" => Some(Name::Tag),
-            "--key" => Some(Name::Key),
-            "--office" => Some(Name::Office),
-            "--serial" => Some(Name::Serial),
-            "--header" => Some(Name::Header),
-            "--progress" => Some(Name::Progress),
-            _ => None,
-        }
-    }
-}
-
-impl fmt::Display for Name {
-    fn fmt<W: fmt::Write>(&self, f: &mut fmt::Formatter<W>) -> fmt::Result {
-        f.write_str(match self {
-            Name::Mode => "--mode",
-            Name::Bytes => "--bytes",
-            Name::Tag => "--tag",
-            Name::Key => "--key",
-            Name::Office => "--office",
-            Name::Serial => "--serial",
-            Name::Header => "--header",
-            Name::Progress => "--progress",
-        })
-    }
-}
-
 // What the words gave so far.
-#[derive(Drop)]
+#[derive(Default, Drop)]
 struct Given {
-    mode: Option<ModeChoice>,
+    mode: Option<ModeKind>,
     bytes: Option<u64>,
     tag: Option<Vec<u8>>,
-    key: Option<String>,
-    office: Option<u32>,
-    serial: Option<u64>,
-    header: Option<String>,
-    progress: bool,
+    basis: GivenBasis,
+    progress: Option<()>,
     file: Option<String>,
     second: Option<String>,
 }
 
-// Fills a place that is empty.
-fn once<T: Drop>(place: &mut Option<T>, name: Name, value: T) -> Result<(), Usage> {
-    if place.replace(value).is_some() {
-        return Err(Usage::Repeated(name));
-    }
-    Ok(())
+#[derive(Default, Drop)]
+struct GivenBasis {
+    key: Option<String>,
+    office: Option<u32>,
+    serial: Option<u64>,
+    header: Option<String>,
 }
 
-// Sets a mark that is not set.
-fn mark(place: &mut bool, name: Name) -> Result<(), Usage> {
-    if *place {
-        return Err(Usage::Repeated(name));
+impl GivenBasis {
+    fn completed(self) -> Result<Basis, Usage> {
+        Ok(Basis {
+            key: self.key.ok_or(Usage::Missing(Name::Key))?,
+            serial: Serial {
+                office: self.office.ok_or(Usage::Missing(Name::Office))?,
+                number: self.serial.ok_or(Usage::Missing(Name::Serial))?,
+            },
+            header: self.header,
+        })
     }
-    *place = true;
-    Ok(())
+}
+
+// Fills a place that is empty.
+fn once<T: Drop>(place: &mut Option<T>, name: Name, value: T) -> Result<(), Usage> {
+    match place.replace(value) {
+        Some(_) => Err(Usage::Repeated(name)),
+        None => Ok(()),
+    }
 }
 
 impl Given {
-    fn none() -> Given {
-        Given {
-            mode: None,
-            bytes: None,
-            tag: None,
-            key: None,
-            office: None,
-            serial: None,
-            header: None,
-            progress: false,
-            file: None,
-            second: None,
-        }
-    }
-
-    fn read(words: &mut Words) -> Result<Given, Usage> {
-        let mut given = Given::none();
-        for _ in 0..usize::MAX {
-            let Some(word) = words.next() else {
-                break;
-            };
-            match Name::of(word.as_str()) {
-                Some(name) => given.take(name, words)?,
-                None => given.take_file(word)?,
+    // An option is followed by its value, which is no option; `--progress` stands alone.
+    fn read(heap: Global, words: Args) -> Result<Given, Usage> {
+        let mut given = Given::default();
+        let mut waiting: Option<Name> = None;
+        for word in words {
+            match (waiting.take(), word.as_str().parse::<Name>().ok()) {
+                (Some(name), Some(_)) => return Err(Usage::NoValue(name)),
+                (Some(name), None) => given.take(heap, name, word)?,
+                (None, Some(Name::Progress)) => given.take(heap, Name::Progress, word)?,
+                (None, Some(name)) => waiting = Some(name),
+                (None, None) => given.take_file(word)?,
             }
         }
-        Ok(given)
+        match waiting {
+            Some(name) => Err(Usage::NoValue(name)),
+            None => Ok(given),
+        }
     }
 
-    fn take(&mut self, name: Name, words: &mut Words) -> Result<(), Usage> {
+    fn take(&mut self, heap: Global, name: Name, text: String) -> Result<(), Usage> {
         match name {
-            Name::Mode => once(&mut self.mode, name, words.mode(name)?),
-            Name::Bytes => once(&mut self.bytes, name, words.number(name, u64::MAX)?),
-            Name::Tag => once(&mut self.tag, name, words.bytes(name)?),
-            Name::Key => once(&mut self.key, name, words.text(name)?),
-            Name::Office => once(&mut self.office, name, words.number(name, u32::MAX)?),
-            Name::Serial => once(&mut self.serial, name, words.number(name, u64::MAX)?),
-            Name::Header => once(&mut self.header, name, words.text(name)?),
-            Name::Progress => mark(&mut self.progress, name),
+            Name::Mode => once(&mut self.mode, name, mode(text)?),
+            Name::Bytes => once(&mut self.bytes, name, number(name, text, u64::MAX)?),
+            Name::Tag => once(&mut self.tag, name, bytes(heap, name, text)?),
+            Name::Key => once(&mut self.basis.key, name, text),
+            Name::Office => once(&mut self.basis.office, name, number(name, text, u32::MAX)?),
+            Name::Serial => once(&mut self.basis.serial, name, number(name, text, u64::MAX)?),
+            Name::Header => once(&mut self.basis.header, name, text),
+            Name::Progress => once(&mut self.progress, name, ()),
         }
     }
 
@@ -185,17 +147,14 @@ impl Given {
 
     // An option that is of no use to a section.
     fn unfit_for_section(&self) -> Option<Name> {
-        if self.mode.is_some() {
-            Some(Name::Mode)
-        } else if self.bytes.is_some() {
-            Some(Name::Bytes)
-        } else if self.tag.is_some() {
-            Some(Name::Tag)
-        } else if self.progress {
-            Some(Name::Progress)
-        } else {
-            None
-        }
+        [
+            (self.mode.is_some(), Name::Mode),
+            (self.bytes.is_some(), Name::Bytes),
+            (self.tag.is_some(), Name::Tag),
+            (self.progress.is_some(), Name::Progress),
+        ]
+        .into_iter()
+        .find_map(|(given, name)| given.then_some(name))
     }
 }
 
@@ -207,41 +166,41 @@ enum Verb {
 
 fn purpose_of(
     verb: Verb,
-    mode: ModeChoice,
+    mode: ModeKind,
     bytes: Option<u64>,
     tag: Option<Vec<u8>>,
 ) -> Result<Purpose, Usage> {
     match (verb, bytes, tag) {
         (Verb::Tag, _, Some(_)) => Err(Usage::Misplaced(Name::Tag)),
-        (Verb::Tag, Some(bytes), None) => Ok(Purpose::Tag(bytes)),
-        (Verb::Tag, None, None) => Ok(Purpose::Tag(mode.largest())),
+        (Verb::Tag, _, None) => Ok(Purpose::Tag(bytes.unwrap_or(mode.largest() as u64))),
         (Verb::Check, Some(_), _) => Err(Usage::Misplaced(Name::Bytes)),
         (Verb::Check, None, Some(tag)) => Ok(Purpose::Check(tag)),
         (Verb::Check, None, None) => Err(Usage::Missing(Name::Tag)),
     }
 }
 
-// A tag is of one file.
-fn refuse_second(file: Option<String>) -> Result<(), Usage> {
-    match file {
-        Some(word) => Err(Usage::ExtraFile(word)),
-        None => Ok(()),
-    }
-}
-
 // What is left out has its default, or is missing.
 fn completed(verb: Verb, given: Given) -> Result<Job, Usage> {
-    refuse_second(given.second)?;
-    let mode = given.mode.unwrap_or(ModeChoice::Smac1);
-    Ok(Job {
-        purpose: purpose_of(verb, mode, given.bytes, given.tag)?,
+    let Given {
         mode,
-        key: given.key.ok_or(Usage::Missing(Name::Key))?,
-        office: given.office.ok_or(Usage::Missing(Name::Office))?,
-        serial: given.serial.ok_or(Usage::Missing(Name::Serial))?,
-        header: given.header,
-        progress: given.progress,
-        file: given.file.ok_or(Usage::NoFile)?,
+        bytes,
+        tag,
+        basis,
+        progress,
+        file,
+        second,
+    } = given;
+    // a tag is of one file
+    if let Some(word) = second {
+        return Err(Usage::ExtraFile(word));
+    }
+    let mode = mode.unwrap_or(ModeKind::Smac1);
+    Ok(Job {
+        purpose: purpose_of(verb, mode, bytes, tag)?,
+        mode,
+        basis: basis.completed()?,
+        progress: progress.is_some(),
+        file: file.ok_or(Usage::NoFile)?,
     })
 }
 
@@ -256,36 +215,25 @@ fn completed_section(action: Action, given: Given) -> Result<SectionJob, Usage> 
     }
     Ok(SectionJob {
         action,
-        key: given.key.ok_or(Usage::Missing(Name::Key))?,
-        office: given.office.ok_or(Usage::Missing(Name::Office))?,
-        serial: given.serial.ok_or(Usage::Missing(Name::Serial))?,
-        header: given.header,
+        basis: given.basis.completed()?,
         input: given.file.ok_or(Usage::NotTwoFiles)?,
         output,
     })
 }
 
-fn read_work(verb: Verb, words: &mut Words) -> Result<Command, Usage> {
-    let given = Given::read(words)?;
-    Ok(Command::Work(completed(verb, given)?))
-}
-
-fn read_section(action: Action, words: &mut Words) -> Result<Command, Usage> {
-    let given = Given::read(words)?;
-    Ok(Command::Section(completed_section(action, given)?))
-}
-
 pub fn read(rt: &HostRuntime) -> Result<Command, Usage> {
-    let mut words = Words::of(rt)?;
+    let mut words = env::args(rt)?;
+    let _program = words.next();
     let Some(first) = words.next() else {
         return Ok(Command::Help);
     };
+    let given = || Given::read(rt.alloc(), words);
     match first.as_str() {
         "help" | "--help" | "-h" => Ok(Command::Help),
-        "tag" => read_work(Verb::Tag, &mut words),
-        "check" => read_work(Verb::Check, &mut words),
-        "seal" => read_section(Action::Seal, &mut words),
-        "open" => read_section(Action::Open, &mut words),
+        "tag" => Ok(Command::Work(completed(Verb::Tag, given()?)?)),
+        "check" => Ok(Command::Work(completed(Verb::Check, given()?)?)),
+        "seal" => Ok(Command::Section(completed_section(Action::Seal, given()?)?)),
+        "open" => Ok(Command::Section(completed_section(Action::Open, given()?)?)),
         _ => Err(Usage::UnknownWord(first)),
     }
 }

@@ -10,20 +10,20 @@ const SMALL: u64 = 256 * MEBIBYTE;
 
 #[derive(Clone, Copy)]
 enum Scale {
-    Silent,
     Percent { of: u64 },
     Mebibytes,
 }
 
 #[derive(Drop)]
 pub struct Meter {
-    scale: Scale,
+    // none shows nothing
+    scale: Option<Scale>,
     count: u64,
     next: u64,
 }
 
 impl Meter {
-    fn new(scale: Scale) -> Meter {
+    fn new(scale: Option<Scale>) -> Meter {
         Meter {
             scale,
             count: 0,
@@ -32,15 +32,14 @@ impl Meter {
     }
 
     pub fn silent() -> Meter {
-        Meter::new(Scale::Silent)
+        Meter::new(None)
     }
 
     // A meter for so many bytes, where their number is known.
     pub fn over(length: Option<u64>) -> Meter {
         Meter::new(match length {
-            None => Scale::Mebibytes,
-            Some(of) if of > SMALL => Scale::Percent { of },
-            Some(_) => Scale::Silent,
+            None => Some(Scale::Mebibytes),
+            Some(of) => (of > SMALL).then_some(Scale::Percent { of }),
         })
     }
 
@@ -54,25 +53,21 @@ impl Meter {
 
     // Ends the line, if there is one.
     pub fn end(&self, rt: &HostRuntime) {
-        if self.next == STEP {
-            return;
+        if self.next != STEP && self.scale.is_some() {
+            self.show(rt);
+            let _ = eprintln!(rt; "");
         }
-        if let Scale::Silent = self.scale {
-            return;
-        }
-        self.show(rt);
-        let _ = eprintln!(rt; "");
     }
 
     // Progress that cannot be shown is no reason to stop.
     fn show(&self, rt: &HostRuntime) {
         match self.scale {
-            Scale::Silent => {}
-            Scale::Percent { of } => {
+            None => {}
+            Some(Scale::Percent { of }) => {
                 let percent = (self.count / (of / 100).max(1)).min(100);
                 let _ = eprint!(rt; "\r{percent}%");
             }
-            Scale::Mebibytes => {
+            Some(Scale::Mebibytes) => {
                 let read = self.count / MEBIBYTE;
                 let _ = eprint!(rt; "\r{read} MiB");
             }

@@ -3,31 +3,23 @@ use crate::faults::Fault;
 use crate::hexadecimal::key_from;
 use crate::options::{Action, SectionJob};
 use crate::source::Source;
-use keys::state::{KeySlot, SerialBook};
+use keys::state::{KeySlot, Serial, SerialBook};
 use refusals::Refusal;
 use section::{LARGEST, TAG};
-use std::{fmt, fs};
+use std::fs;
+use thiserror::Error;
 
 // Why a file cannot be sealed, or opened.
-#[derive(Clone, Copy)]
+#[derive(Clone, Copy, Debug, Error)]
 pub enum BadSection {
+    #[error("a section's header has at most 1048576 bytes")]
     HeaderLength,
+    #[error("a sealed section holds at most 1048576 bytes")]
     BodyLength,
+    #[error("a sealed section has 16 to 1048592 bytes")]
     SectionLength,
+    #[error("not opened: the section was changed, or key, office, serial or header is not the one it was sealed with")]
     Mismatch,
-}
-
-impl fmt::Display for BadSection {
-    fn fmt<W: fmt::Write>(&self, f: &mut fmt::Formatter<W>) -> fmt::Result {
-        f.write_str(match self {
-            BadSection::HeaderLength => "a section's header has at most 1048576 bytes",
-            BadSection::BodyLength => "a sealed section holds at most 1048576 bytes",
-            BadSection::SectionLength => "a sealed section has 16 to 1048592 bytes",
-            BadSection::Mismatch => {
-                "not opened: the section was changed, or key, office, serial or header is not the one it was sealed with"
-            }
-        })
-    }
 }
 
 // All bytes of the file. One that has more than it may is not read further than that.
@@ -40,13 +32,13 @@ fn read_whole(
 ) -> Result<Vec<u8>, Fault> {
     let bytes = source.first(rt, (most as u64).saturating_add(1))?;
     if bytes.len() > most {
-        return Err(Fault::section(rt.alloc(), name, cause));
+        return Err(Fault::of_file(rt.alloc(), name, cause));
     }
     Ok(bytes)
 }
 
 fn read_header(rt: &HostRuntime, job: &SectionJob) -> Result<Vec<u8>, Fault> {
-    let Some(name) = &job.header else {
+    let Some(name) = &job.basis.header else {
         return Ok(Vec::new(rt.alloc()));
     };
     let source = Source::open_file(rt, name.as_str())?;
@@ -65,10 +57,7 @@ fn read_input(
 
 fn write_output(rt: &HostRuntime, job: &SectionJob, bytes: &[u8]) -> Result<(), Fault> {
     let name = job.output.as_str();
-    match fs::write(rt, name, bytes) {
-        Ok(()) => Ok(()),
-        Err(cause) => Err(Fault::file(rt.alloc(), name, cause)),
-    }
+    fs::write(rt, name, bytes).map_err(|cause| Fault::of_file(rt.alloc(), name, cause))
 }
 
 // Answers how many bytes were sealed.
@@ -79,7 +68,8 @@ fn seal_file(
     header: &[u8],
 ) -> Result<usize, Fault> {
     let body = read_input(rt, job, LARGEST, BadSection::BodyLength)?;
-    let drawn = SerialBook::new(job.office, job.serial, job.serial).draw()?;
+    let serial = job.basis.serial;
+    let drawn = SerialBook::new(serial.office, serial.number, serial.number).draw()?;
     let mut out = vec![in rt.alloc(); 0u8; body.len() + TAG]?;
     section::seal(key, drawn, header, body.as_slice(), out.as_mut_slice())?;
     write_output(rt, job, out.as_slice())?;
@@ -97,19 +87,18 @@ fn open_file(
     let name = job.input.as_str();
     let sealed = read_input(rt, job, LARGEST + TAG, BadSection::SectionLength)?;
     if sealed.len() < TAG {
-        return Err(Fault::section(heap, name, BadSection::SectionLength));
+        return Err(Fault::of_file(heap, name, BadSection::SectionLength));
     }
     let mut out = vec![in heap; 0u8; sealed.len() - TAG]?;
     let answer = section::open(
         key,
-        job.office,
-        job.serial,
+        job.basis.serial,
         header,
         sealed.as_slice(),
         out.as_mut_slice(),
     );
     if let Err(Refusal::TagMismatch) = answer {
-        return Err(Fault::section(heap, name, BadSection::Mismatch));
+        return Err(Fault::of_file(heap, name, BadSection::Mismatch));
     }
     answer?;
     write_output(rt, job, out.as_slice())?;
@@ -117,15 +106,14 @@ fn open_file(
 }
 
 pub fn perform(rt: &HostRuntime, job: &SectionJob) -> Result<(), Fault> {
-    let key = key_from(rt, job.key.as_str())?;
+    let key = key_from(rt, job.basis.key.as_str())?;
     let header = read_header(rt, job)?;
     let count = match job.action {
         Action::Seal => seal_file(rt, job, &key, header.as_slice())?,
         Action::Open => open_file(rt, job, &key, header.as_slice())?,
     };
-    let office = job.office;
-    let serial = job.serial;
+    let Serial { office, number } = job.basis.serial;
     let output = job.output.as_str();
-    println!(rt; "section {count} {office} {serial} {output}")?;
+    println!(rt; "section {count} {office} {number} {output}")?;
     Ok(())
 }

@@ -2,10 +2,12 @@
 use crate::faults::Fault;
 use crate::progress::Meter;
 use refusals::Refusal;
+use run::pieces::TakesPieces;
 use std::fs::File;
 use std::io;
 use std::io::{ErrorKind, Read, Stdin};
 
+// An enum, since a function that makes a `dyn Read` and hands it out is refused.
 #[derive(Drop)]
 enum Handle {
     Named(File),
@@ -27,11 +29,6 @@ pub struct Source<'a> {
     handle: Handle,
 }
 
-// What takes the pieces that are read.
-pub trait Part {
-    fn piece(&mut self, bytes: &[u8]) -> Result<(), Refusal>;
-}
-
 impl<'a> Source<'a> {
     // The file of that name, or standard input at '-'.
     pub fn open(rt: &HostRuntime, name: &'a str) -> Result<Source<'a>, Fault> {
@@ -45,13 +42,11 @@ impl<'a> Source<'a> {
     }
 
     pub fn open_file(rt: &HostRuntime, name: &'a str) -> Result<Source<'a>, Fault> {
-        match File::open(rt, name) {
-            Ok(file) => Ok(Source {
-                name,
-                handle: Handle::Named(file),
-            }),
-            Err(cause) => Err(Fault::file(rt.alloc(), name, cause)),
-        }
+        let file = File::open(rt, name).map_err(|cause| Fault::of_file(rt.alloc(), name, cause))?;
+        Ok(Source {
+            name,
+            handle: Handle::Named(file),
+        })
     }
 
     // How many bytes there are to read, where that is known.
@@ -60,11 +55,7 @@ impl<'a> Source<'a> {
             return None;
         };
         let found = file.metadata().ok()?;
-        if found.is_file() {
-            Some(found.len())
-        } else {
-            None
-        }
+        found.is_file().then_some(found.len())
     }
 
     // The bytes from the start on, and no more than so many of them.
@@ -72,29 +63,30 @@ impl<'a> Source<'a> {
         let mut bytes = Vec::new(rt.alloc());
         match self.handle.take(most).read_to_end(&mut bytes) {
             Ok(_) => Ok(bytes),
-            Err(cause) => Err(Fault::file(rt.alloc(), self.name, cause)),
+            Err(cause) => Err(Fault::of_file(rt.alloc(), self.name, cause)),
         }
     }
 
     // Reads to the end and hands each piece on; answers how many bytes there were.
-    pub fn feed<P: Part>(
+    pub fn feed<R: TakesPieces>(
         &mut self,
         rt: &HostRuntime,
         buffer: &mut [u8],
         meter: &mut Meter,
-        part: &mut P,
+        run: &mut R,
     ) -> Result<u64, Fault> {
         let mut count = 0u64;
+        // A file may grow while it is read, so only a count of turns ends the loop.
         for _ in 0..u64::MAX {
             match self.handle.read(buffer) {
                 Ok(0) => return Ok(count),
                 Ok(n) => {
-                    part.piece(&buffer[..n])?;
+                    run.piece(&buffer[..n])?;
                     count = count.saturating_add(n as u64);
                     meter.reach(rt, count);
                 }
                 Err(cause) if cause.kind() == ErrorKind::Interrupted => {}
-                Err(cause) => return Err(Fault::file(rt.alloc(), self.name, cause)),
+                Err(cause) => return Err(Fault::of_file(rt.alloc(), self.name, cause)),
             }
         }
         // There were more turns than a part can have bytes.

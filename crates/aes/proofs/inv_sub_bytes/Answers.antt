@@ -1,14 +1,10 @@
-use Rattle.std.proofs.Common.{refl, arith}
+use Rattle.std.proofs.Common.{rules}
 use Rattle.aes.specs.Round.{InvSubBytes}
-use Rattle.aes.proofs.Blocks.{fill_start, fill_step, fill_end}
+use Rattle.aes.proofs.Blocks.{is_block}
 use Rattle.aes.proofs.inv_sub_bytes.Goals as goal
-
-pub loop-i-init : goal.loop-i-init
-loop-i-init c = fill_start _ _ refl
-
-pub loop-i-preserved : goal.loop-i-preserved
-loop-i-preserved c = fill_step _ c.loop-i.out c.loop-i.i _ (omega arith) c.inv_sub_byte.ensures c.loop-i.invariant
 
 pub returns : goal.returns
 unfolding InvSubBytes
-returns c = fill_end _ c.loop-i.out c.loop-i.i (omega arith) c.loop-i.invariant
+returns c =
+    let all = c.map.ensures.items in
+    is_block _ c.map.result all.long (λ k h. let one = all.at k 0 0 h in search rules)

@@ -1,24 +1,24 @@
-use Rattle.std.proofs.Common.{◌≡◌, ◌/◌, ◌%◌, sym, ◌∙◌, ap₂, arith, rules}
-use lib.Bits.{bit_xor}
-use Rattle.std.proofs.lemmas.Bool.{cond-false, ne_eqb}
-use Rattle.aes256.specs.Cipher.{temp}
+use Rattle.std.proofs.Common.{◌≡◌, ◌-◌, ◌*◌, ◌/◌, ◌%◌, ◌^◌, arith}
+use lib.Bits.{xor_zero_r}
+use Rattle.std.proofs.lemmas.Bool.Decides.{nat_tests}
+use Rattle.std.proofs.lemmas.Nat.{one_shl}
+use Rattle.aes256.specs.Cipher.{rcon, added}
 use Rattle.aes256.proofs.temp.Goals as goal
 
 pub returns-in-0 : goal.returns-in-0
-unfolding temp
+unfolding added rcon
 returns-in-0 c =
-    let e : c.args.m / 4 % 8 ≡ 0 = omega arith in
-    rw e (ap₂ bit_xor c.sub_byte.ensures c.rcon.ensures)
+    let one : 1 * 2 ^ (c.args.m / 32 - 1) % 256 ≡ 2 ^ (c.args.m / 32 - 1) = one_shl (c.args.m / 32 - 1) 8 (omega arith) in
+    grind (arith, nat_tests, one)
+
+pub returns-in-0-2 : goal.returns-in-0-2
+unfolding added rcon
+returns-in-0-2 c = grind (arith, nat_tests, xor_zero_r)
 
 pub returns-in-4 : goal.returns-in-4
-unfolding temp
-returns-in-4 c =
-    let e : c.args.m / 4 % 8 ≡ 4 = omega arith in
-    rw e c.sub_byte-in-4.ensures
+unfolding added
+returns-in-4 c = grind (arith, nat_tests)
 
 pub returns-in_default : goal.returns-in_default
-unfolding temp
-returns-in_default c =
-    let a : c.args.m / 4 % 8 ≡ 0 → ⊥ = search rules in
-    let b : c.args.m / 4 % 8 ≡ 4 → ⊥ = search rules in
-    sym (cond-false _ _ _ (ne_eqb _ _ a) ∙ cond-false _ _ _ (ne_eqb _ _ b))
+unfolding added
+returns-in_default c = grind (arith, nat_tests)

@@ -5,12 +5,10 @@ pub returns : goal.returns
 returns g c =
     let key = c.args.key.now in
     let r = g.M.Mode.chosen c.args.setup key in
-    let ch = c.in_ok-header_count.ensures in
-    let cb = c.in_ok-body_count.ensures in (
-      ch.0,
-      cb.0,
-      calls_lead r _ _ _ _ _ key c.args.iv.now c.args.header.now c.args.body.now _ _ _ _ _ _ _ _
-          c.load-mode.ensures.rule c.load-mode.ensures.state c.absorb_part.ensures.rule c.absorb_part.ensures.state
-          c.absorb_part-2.ensures.rule c.absorb_part-2.ensures.state ch.1 cb.1 c.length_block.ensures
-          c.absorb.ensures.rule c.absorb.ensures.state c.fill_up.ensures.rule c.fill_up.ensures.state,
+    let h = c.in_ok-header.ensures in
+    let b = c.in_ok-body.ensures in (
+      h.0,
+      b.0,
+      calls_lead r _ key c.args.iv.now c.args.message.now.header.now c.args.message.now.body.now _ _ _ _ _ _
+          c.load-loaded.ensures.rule c.load-loaded.ensures.state c.absorb_part-after_header.ensures c.absorb_part-after_body.ensures h.1 b.1 c.close.ensures,
     )

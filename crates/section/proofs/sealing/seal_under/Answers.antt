@@ -2,6 +2,7 @@ use Rattle.std.proofs.Common.{◌≡◌, ℕ, ◌-◌, ◌++◌, length, take, d
 use Rattle.std.proofs.lemmas.List.{take_at}
 use Rattle.section.specs.Sections.{section_tag}
 use Rattle.section.proofs.Masks.{length_masked}
+use Rattle.section.proofs.Closings.{sixteen}
 use Rattle.section.proofs.Splits.{behind_front}
 use Rattle.section.proofs.sealing.seal_under.Goals as goal
 
@@ -19,5 +20,5 @@ returns g c =
       search rules,
       search rules,
       behind_front front rest c.copy_from_slice.new.self n (length (front ++ rest) - n) long (omega arith)
-          ∙ ap₂ ◌++◌ c.mask.ensures (c.copy_from_slice.ensures.after ∙ c.section_tag-tag.ensures ∙ ap (section_tag z header) (cut ∙ c.mask.ensures)),
+          ∙ ap₂ ◌++◌ c.mask.ensures (c.copy_from_slice.ensures.after ∙ c.section_tag.ensures ∙ sixteen z header _ _ c.closing-run.ensures ∙ ap (section_tag z header) (cut ∙ c.mask.ensures)),
     )

@@ -6,4 +6,4 @@ use Rattle.keystream.proofs.state.CounterMode.new.Goals as goal
 pub returns : goal.returns
 unfolding keystream
 returns c =
-    ap (λ w j. cipher w (counter_block c.args.office c.args.serial j)) (c.new.ensures ∙ ap schedule c.bytes.ensures)
+    ap (λ w j. cipher w (counter_block c.args.serial.office c.args.serial.number j)) (c.new.ensures ∙ ap schedule c.bytes.ensures)

@@ -1,6 +1,0 @@
-use Rattle.rounds.specs.Mixing.{mixed}
-use Rattle.registers.proofs.mixed.Goals as goal
-
-pub returns : goal.returns
-unfolding mixed
-returns g c = cc

@@ -1,6 +1,0 @@
-use Rattle.rounds.specs.Round.{round}
-use Rattle.registers.proofs.step.Goals as goal
-
-pub returns : goal.returns
-unfolding round
-returns g c = cc
