@@ -18,7 +18,7 @@ impl KeySlot {
         KeySlot { bytes: [0; 32] }
     }
 
-    // Bytes beyond those given are zero; refused unless 16 to 32 are given.
+    // Bytes beyond those given are zero; refused unless 16 to 32 are given. No `TryFrom`: refused, the slot keeps its key.
     pub fn set(&mut self, key: &[u8]) -> Result<(), Refusal>
         ensures { KeySet self.old.bytes key.now result self.new.bytes }
     {

@@ -14,6 +14,7 @@ use mode::Mode;
 // As many zero blocks as any mode asks for.
 const ZEROS: [[u8; 16]; 15] = [[0; 16]; 15];
 
+// Rule and state are told in two clauses, as in `Mode`.
 impl<M: Mode> Framing<M> {
     // A part begins: nothing waits.
     pub fn over(mode: M) -> Framing<M>

@@ -13,6 +13,7 @@ use mode::Mode;
 use refusals::Refusal;
 use tags::state::{Allowance, Verdict};
 
+// Setup, key and serial stay apart, as in `message::absorb_message`; a received tag is read and an allowance is changed.
 // Fills the buffer with the first bytes of the tag; the drawn serial is spent. Refused, the buffer keeps its bytes.
 pub fn tag<M: Mode>(
     setup: M::Setup,

@@ -23,6 +23,7 @@ pub struct RegisterWords<P> {
 }
 
 impl<P: Permutation> RegisterWords<P> {
+    // Three registers and no array of them: `from_bytes(&[halves[1], halves[0], *iv])` would copy three blocks to take them apart.
     pub fn from_bytes(a1: &[u8; 16], a2: &[u8; 16], a3: &[u8; 16]) -> RegisterWords<P>
         ensures { regs P.sigma result ≡ record { a1 = a1.now; a2 = a2.now; a3 = a3.now } }
     {

@@ -14,7 +14,7 @@ use mode::Mode;
 use singles::state::Smac1;
 
 impl<M: Mode> HeaderRun<M> {
-    // Under a serial that was drawn, which is spent, or one as received.
+    // Under a serial that was drawn, which is spent, or one as received. Setup, key and serial stay apart, as in `message`.
     pub fn begin<S: Numbered>(
         setup: M::Setup,
         key: &KeySlot,

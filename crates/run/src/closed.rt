@@ -17,6 +17,7 @@ impl<M: Mode> ClosedRun<M> {
         tag::write(&self.mode, out)
     }
 
+    // The tag is read and the allowance is changed, so they are no value together.
     // Pays one of the allowance and says whether the received bytes are the tag; refused, nothing is paid.
     pub fn compare(&self, received: &[u8], allowance: &mut Allowance) -> Result<Verdict, Refusal>
         ensures { Compared (closed_of M.rule M.state self.now) received.now allowance.old.left result allowance.new.left }

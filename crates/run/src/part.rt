@@ -24,9 +24,8 @@ impl<M: Mode> Part<M> {
     pub(crate) fn take(&mut self, piece: &[u8]) -> Result<(), Refusal>
         ensures { Piece (part_of M.rule M.state self.old) piece.now result (part_of M.rule M.state self.new) }
     {
-        let Some(count) = self.count.more(piece.len(), self.ceiling) else {
-            return Err(Refusal::PastCeiling);
-        };
+        let more = self.count.more(piece.len(), self.ceiling);
+        let count = more.ok_or(Refusal::PastCeiling)?;
         self.framing.feed(piece);
         self.count = count;
         Ok(())

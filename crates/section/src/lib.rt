@@ -23,6 +23,7 @@ pub const LARGEST: usize = 1_048_576;
 // The bytes that a section has more than its body.
 pub const TAG: usize = 16;
 
+// Header and body stay apart, so that `seal(&key, drawn, header, body, out)` and `open(&key, serial, header, section, out)` mirror each other.
 // Seals under a key and a drawn serial, which is spent whatever comes.
 pub fn seal(
     key: &KeySlot,

@@ -25,7 +25,7 @@ pub(crate) fn mask<K: Keystream>(keys: &K, input: &[u8], out: &mut [u8])
     xor_into(&word, tail, &mut out[start..]);
 }
 
-// Writes the input xored with the first bytes of a word.
+// Writes the input xored with the first bytes of a word; by place, as in `mask`.
 fn xor_into(word: &[u8; 16], input: &[u8], out: &mut [u8])
     requires { (length out.old ≡ length input.now) × (length input.now ≤ 16) }
     ensures { out.new ≡ input.now ⊕ word.now }

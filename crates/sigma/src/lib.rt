@@ -40,7 +40,7 @@ pub trait Permutation {
     ghost undone: { Undone sigma };
 }
 
-// Byte `order[i]` at each place i. Written out, since places that are constants then cost nothing before `f`; with `map` a round takes five times as long.
+// Byte `order[i]` at each place i. Written out, since places that are constants then cost nothing before `f`; with `map` a loop of rounds took 2.0 s in place of 0.35 s.
 #[tactic(auto, using(crate::proofs::Orders::place_below))]
 fn ordered(order: &[u8; 16], x: Words) -> Words
     requires { Order order.now }

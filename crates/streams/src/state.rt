@@ -12,7 +12,7 @@ pub struct StreamCount {
     ghost most: { n ≤ 16 },
 }
 
-// An array beside its length, and no `ArrayVec`, since a mode is `Copy`.
+// An array beside its length: `Mode` asks for `Copy`, and an `ArrayVec` is not.
 #[derive(Clone, Copy)]
 pub struct Smac1xN {
     pub(crate) streams: [RegisterWords<Whole>; 16],

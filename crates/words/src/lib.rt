@@ -39,7 +39,7 @@ impl BitXor for Words {
 }
 
 impl Words {
-    // The bytes of the four words, each the lowest first.
+    // The bytes of the four words, each the lowest first. By ranges, since `concat` asks for memory.
     pub fn to_bytes(self) -> [u8; 16]
         ensures { result ≡ bytes self }
     {

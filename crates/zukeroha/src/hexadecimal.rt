@@ -33,7 +33,7 @@ impl From<FromHexError> for NotHex {
     }
 }
 
-// Bytes as lower-case hexadecimal, written without memory, which `hex::encode` would ask for.
+// Bytes as lower-case hexadecimal. `hex::encode` asks for memory, and `encode_to_slice` for a second buffer and a text made of it.
 #[derive(Drop)]
 pub struct Hex<'a>(pub &'a [u8]);
 

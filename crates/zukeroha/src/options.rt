@@ -50,6 +50,7 @@ pub struct SectionJob {
     pub output: String,
 }
 
+// An enum, and no closure: one would be chosen by the same two words.
 #[derive(Clone, Copy)]
 pub enum Action {
     Seal,
@@ -117,6 +118,7 @@ impl Given {
         }
     }
 
+    // A match, since the fields have six types, and a table of functions would need one.
     fn take(&mut self, heap: Global, name: Name, text: String) -> Result<(), Usage> {
         match name {
             Name::Mode => once(&mut self.mode, name, mode(text)?),

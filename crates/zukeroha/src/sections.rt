@@ -108,6 +108,7 @@ fn open_file(
 pub fn perform(rt: &HostRuntime, job: &SectionJob) -> Result<(), Fault> {
     let key = key_from(rt, job.basis.key.as_str())?;
     let header = read_header(rt, job)?;
+    // Two arms; a closure would be chosen by the same two.
     let count = match job.action {
         Action::Seal => seal_file(rt, job, &key, header.as_slice())?,
         Action::Open => open_file(rt, job, &key, header.as_slice())?,

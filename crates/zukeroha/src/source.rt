@@ -61,10 +61,11 @@ impl<'a> Source<'a> {
     // The bytes from the start on, and no more than so many of them.
     pub fn first(self, rt: &HostRuntime, most: u64) -> Result<Vec<u8>, Fault> {
         let mut bytes = Vec::new(rt.alloc());
-        match self.handle.take(most).read_to_end(&mut bytes) {
-            Ok(_) => Ok(bytes),
-            Err(cause) => Err(Fault::of_file(rt.alloc(), self.name, cause)),
-        }
+        self.handle
+            .take(most)
+            .read_to_end(&mut bytes)
+            .map_err(|cause| Fault::of_file(rt.alloc(), self.name, cause))?;
+        Ok(bytes)
     }
 
     // Reads to the end and hands each piece on; answers how many bytes there were.

@@ -27,6 +27,7 @@ pub fn perform(rt: &HostRuntime, job: &Job) -> Result<Outcome, Fault> {
     let key = key_from(rt, job.basis.key.as_str())?;
     let run = begin(&key, job)?;
     let (run, count) = read_through(rt, run, job)?;
+    // Two arms; a closure would be chosen by the same two.
     match &job.purpose {
         Purpose::Tag(bytes) => print_tag(rt, job, &run, count, *bytes),
         Purpose::Check(tag) => print_verdict(rt, &run, tag.as_slice()),
