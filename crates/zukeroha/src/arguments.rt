@@ -10,7 +10,7 @@ pub fn mode(text: String) -> Result<ModeKind, Usage> {
     text.parse().map_err(|_| Usage::UnknownMode(text))
 }
 
-// A number up to the highest of its type.
+// A number up to the highest of its type. Name and word stay apart: one is told in the error about the other.
 pub fn number<T: FromStr + Into<u64> + Drop>(name: Name, text: String, most: T) -> Result<T, Usage>
 where
     T::Err: Drop,

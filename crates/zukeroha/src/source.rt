@@ -68,7 +68,7 @@ impl<'a> Source<'a> {
         Ok(bytes)
     }
 
-    // Reads to the end and hands each piece on; answers how many bytes there were.
+    // Reads to the end and hands each piece on; answers how many bytes there were. Buffer, meter and run are what it works on.
     pub fn feed<R: TakesPieces>(
         &mut self,
         rt: &HostRuntime,
