@@ -6,9 +6,11 @@ ghost use Rattle.capi.specs.Calls.{CTagged, number_of as number_of_answer, Answe
 
 use keys::state::{KeySlot, SerialBook};
 use message::state::Message;
-use modes::kinds::{AnyMode, ModeKind};
+use modes::kinds::ModeKind;
 use oneshot::tag;
 use refusals::Refusal;
+use singles::state::{Smac1, Smac12, Smac34};
+use streams::state::Smac1xN;
 
 // The parameters are those that C hands in.
 fn tag_message(
@@ -27,7 +29,14 @@ fn tag_message(
     let mut slot = KeySlot::new();
     slot.set(key)?;
     let drawn = SerialBook::new(office, serial, serial).draw()?;
-    tag::<AnyMode>(kind, &slot, drawn, &Message { header, body }, out)
+    let message = Message { header, body };
+    // An arm for each mode, and not the enum over them: to move that costs a short message more than half its time again.
+    match kind {
+        ModeKind::Smac1 => tag::<Smac1>((), &slot, drawn, &message, out),
+        ModeKind::Smac34 => tag::<Smac34>((), &slot, drawn, &message, out),
+        ModeKind::Smac12 => tag::<Smac12>((), &slot, drawn, &message, out),
+        ModeKind::Smac1xN(count) => tag::<Smac1xN>(count, &slot, drawn, &message, out),
+    }
 }
 
 fn number_of(answer: Result<(), Refusal>) -> u8

@@ -5,12 +5,20 @@ use Rattle.std.proofs.lemmas.Slice.{take-put_mid, drop-put_mid}
 use borrow.Rule.Slice.PartMut.{put_mid}
 use Rattle.std.specs.Simd.{first_chunks}
 use Rattle.mode.specs.Rules.{Rule, State, after, absorbed}
-use Rattle.message.specs.Framing.{cut, flushed}
-use Rattle.message.specs.Feeding.{Fed, fed, fed_of, fed_byte, flush}
+use Rattle.message.specs.Framing.{cut, flushed, padded}
+use Rattle.message.specs.Feeding.{Fed, fed, fed_of, fed_byte, flush, held}
+use Rattle.message.specs.declared.state.Pending.{Pending}
 
 pub flushed_some : (p : List ℕ) → 0 < length p → flushed p ≡ (p ++ replicate (16 - length p) 0) ∷ []
 flushed_some [] h = absurd (omega arith)
 flushed_some (x ∷ p) h = refl
+
+pub flushed_none : (p : List ℕ) → length p ≡ 0 → flushed p ≡ []
+flushed_none [] h = refl
+flushed_none (x ∷ p) h = absurd (omega arith)
+
+pub held_length : (p : Pending) → length (held p) ≡ p.len
+held_length p = simp length-take (omega (arith, p.ok.0, p.ok.1))
 
 drop_whole : (a b : List ℕ) (n : ℕ) → length a ≡ n → drop n (a ++ b) ≡ b
 drop_whole [] b zero h = refl
@@ -107,3 +115,9 @@ module _ (r : Rule) where
       ∙ ap (λ x. fed r x back) (sym (fed_full m p front l f))
       ∙ sym (fed_append (fed_of m p) front back)
       ∙ ap (fed r (fed_of m p)) (sym eb)
+
+  -- a whole part: its whole blocks, and then what is left, filled up with zeros
+  pub part_absorbed : (m m' : State) (part : List ℕ) (whole : List (List ℕ)) (tail : List ℕ) →
+      whole ≡ first_chunks 16 (length part / 16) part → tail ≡ drop (length part / 16 * 16) part → length tail < 16 →
+      m' ≡ absorbed r m whole → absorbed r m' (flushed tail) ≡ absorbed r m (padded part)
+  part_absorbed m m' part whole tail ew et l em = sym (fed_cut m [] part ∙ ap (flush r) (sym (fed_aligned m m' part whole tail tail ew et l em refl)))

@@ -1,8 +1,9 @@
 -- Bytes that reach a mode through a block of waiting bytes.
-use Rattle.std.specs.Prelude.{ℕ, cond, List, [], ◌∷◌, ◌++◌, length, replicate, ◌==◌}
+use Rattle.std.specs.Prelude.{ℕ, cond, List, [], ◌∷◌, ◌++◌, length, take, replicate, ◌==◌}
 use Rattle.mode.specs.Rules.{Rule, State, after, absorbed}
 use Rattle.message.specs.Framing.{flushed, zero_block}
 use Rattle.message.specs.declared.state.Framing.{Framing}
+use Rattle.message.specs.declared.state.Pending.{Pending}
 
 -- a mode's state, and the bytes that wait for a whole block
 pub record Fed : Type 0 where
@@ -28,6 +29,10 @@ flush r s = absorbed r s.state (flushed s.waiting)
 abbrev pub filled : Rule → State → State
 filled r s = absorbed r s (replicate (r.due s.place) zero_block)
 
+-- the bytes that wait
+abbrev pub held : Pending → List ℕ
+held p = take p.len p.bytes
+
 -- where a part under way stands
 abbrev pub fed_in : {M S : Type 0} → (M → State) → Framing M S → Fed
-fed_in state f = fed_of (state f.mode) f.waiting.items
+fed_in state f = fed_of (state f.mode) (held f.pending)

@@ -2,7 +2,7 @@
 use Rattle.std.specs.Prelude.{◌≡◌, ℕ, ◌+◌, ◌^◌, ◌<◌, ◌≤◌, ◌⊎◌, List, length, take, Ok, Err, Result}
 use Rattle.refusals.specs.declared.Refusal.{Refusal}
 use Rattle.refusals.specs.Numbers.{number}
-use Rattle.mode.specs.Rules.{Rule, State, loaded, absorbed}
+use Rattle.mode.specs.Rules.{Rule, State, at_first, loaded, absorbed}
 use Rattle.tags.specs.declared.state.Verdict.{Verdict}
 use Rattle.tags.specs.Tags.{rest, Admitted, NotAdmitted, Says}
 use Rattle.message.specs.Framing.{message, tag_of}
@@ -13,6 +13,14 @@ Countable bs = length bs < 2 ^ 61
 
 abbrev pub TooLong : List ℕ → Type 0
 TooLong bs = 2 ^ 61 ≤ length bs
+
+-- a mode before and after a whole message: from the first place on, it is led where the framed message leads
+abbrev pub Taken : {M : Type 0} (rule : M → Rule) (state : M → State) → M → List ℕ → List ℕ → Result (Unit {0}) Refusal → M → Type 0
+Taken rule state m header body (Ok _) n =
+    Countable header
+    × Countable body
+    × ((regs : List (List ℕ)) → state m ≡ at_first regs → rest rule state n ≡ record { rule = rule m; state = absorbed (rule m) (at_first regs) (message (rule m) header body) })
+Taken rule state m header body (Err e) n = (TooLong header ⊎ TooLong body) × (number e ≡ 4)
 
 -- absorbing a whole message, loaded with key and IV: a mode that stands where the framed message leads
 abbrev pub Led : {M : Type 0} (rule : M → Rule) (state : M → State) → Rule → List ℕ → List ℕ → List ℕ → List ℕ → Result M Refusal → Type 0

@@ -9,6 +9,10 @@ use Rattle.mode.specs.Rules.{Rule, State, Good, Key, Lawful, loaded, after, befo
 pub same_state : {s t : State} → s.regs ≡ t.regs → s.place ≡ t.place → s ≡ t
 same_state p q = λ i. record { regs = p i; place = q i }
 
+-- a call that leaves the rule
+pub under : {q r : Rule} {s t : State} {b : List ℕ} → q ≡ r → t ≡ after q s b → t ≡ after r s b
+under {q} {r} {s} {t} {b} e f = f ∙ ap (λ z. after z s b) e
+
 module _ (r : Rule) (l : Lawful r) where
   pub loaded_good : (key iv : List ℕ) → Key key → Block iv → Good r (loaded r key iv)
   loaded_good key iv h b = record { fit = l.load_fit key iv h b; within = l.starts }

@@ -1,8 +1,8 @@
 // The modes' names, as the program reads and prints them, and their largest tags.
-ghost use Rattle.std.specs.Prelude.{◌≡◌, ℕ, ◌^◌, ◌<◌, ◌++◌, Some, codes};
+ghost use Rattle.std.specs.Prelude.{◌≡◌, ℕ, ◌^◌, ◌<◌, ◌++◌, Some, codes, MatchOption};
 ghost use Rattle.std.specs.Fmt.{decimal};
 ghost use Rattle.modes.specs.Any.{any_chosen};
-ghost use Rattle.modes.specs.Names.{name as name_of, NameRead};
+ghost use Rattle.modes.specs.Names.{name as name_of, Streams, NameRead};
 
 use crate::kinds::ModeKind;
 use refusals::Refusal;
@@ -41,7 +41,8 @@ impl fmt::Display for ModeKind {
 
 // The number of streams in a name that has one.
 fn streams_of(name: &str) -> Option<u8>
-    ensures { (n : ℕ) → n < 2 ^ 8 → name.now ≡ codes "smac-1x" ++ decimal n → result ≡ Some n }
+    ensures printed { (n : ℕ) → n < 2 ^ 8 → name.now ≡ codes "smac-1x" ++ decimal n → result ≡ Some n }
+    ensures read { MatchOption result ((n : ℕ) → n < 2 ^ 8 → ¬ (Streams name.now n)) (Streams name.now) }
 {
     name.strip_prefix("smac-1x")?.parse().ok()
 }

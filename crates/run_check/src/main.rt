@@ -70,12 +70,15 @@ fn show(rt: &HostRuntime, name: &str, blocks: &[[u8; 16]]) -> anyhow::Result<()>
     let mut room = [0; 32];
     let tag = &mut room[..kind.largest()];
     done.run.tag(tag)?;
-    let hex = hex::encode(rt.alloc(), &*tag)?;
+    print!(rt; " tag ")?;
+    for byte in tag.iter() {
+        print!(rt; "{byte:02x}")?;
+    }
     let Replayed { run, .. } = done;
     let start = run.walk_back(blocks);
     let loaded = AnyMode::load(kind, key.bytes(), &SERIAL.iv());
     let back = start.finish() == loaded.finish();
-    println!(rt; " tag {hex} back at the start: {back}")?;
+    println!(rt; " back at the start: {back}")?;
     Ok(())
 }
 

@@ -1,14 +1,12 @@
-use Rattle.message.proofs.Leads.{calls_lead}
+use Rattle.message.proofs.Leads.{loaded_led}
 use Rattle.message.proofs.absorb_message.Goals as goal
 
 pub returns : goal.returns
 returns g c =
+    let m = c.args.message.now in
     let key = c.args.key.now in
+    let iv = c.args.iv.now in
     let r = g.M.Mode.chosen c.args.setup key in
-    let h = c.in_ok-header.ensures in
-    let b = c.in_ok-body.ensures in (
-      h.0,
-      b.0,
-      calls_lead r _ key c.args.iv.now c.args.message.now.header.now c.args.message.now.body.now _ _ _ _ _ _
-          c.load-loaded.ensures.rule c.load-loaded.ensures.state c.absorb_part-after_header.ensures c.absorb_part-after_body.ensures h.1 b.1 c.close.ensures,
-    )
+    let loaded = c.load-mode.ensures in
+    let taken = c.in_ok-absorb_whole.ensures in
+    (taken.0, taken.1, loaded_led r key iv m.header.now m.body.now _ _ _ loaded.rule loaded.state taken.2)

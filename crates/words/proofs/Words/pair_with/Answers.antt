@@ -1,4 +1,4 @@
-use Rattle.std.proofs.Common.{◌≡◌, ◌∙◌, arith, length-append}
+use Rattle.std.proofs.Common.{◌≡◌, ◌∙◌}
 use Rattle.words.specs.Words.{bytes}
 use Rattle.words.proofs.Words.pair_with.Goals as goal
 
